@@ -1,8 +1,6 @@
-use mathlib.Core.Path.{sym, _∙_}
-use borrow.Author.Tests.{not-true, not-false}
 use Rattle.operator.specs.Meaning.{meaning}
 use Rattle.operator.specs.Apply.{applying}
-use Rattle.operator.proofs.RuleLaws.{given}
+use Rattle.operator.proofs.RuleLaws.{passed, failed, given}
 use borrow.Author.Needs.{needs}
 use Rattle.operator.proofs.apply.Statement.{statement}
 use Rattle.operator.proofs.apply.Tie as tie
@@ -15,7 +13,7 @@ refused-requires c κs = search needs
 
 returns : tie.Need-returns
 unfolding applying
-returns c = rw (sym (c .before .before .widths-hold .ensures) ∙ not-true _ (c .before .if1 .taken)) (c .refused .ensures)
+returns c = rw (failed (c .before .before .widths-hold .ensures) (c .before .if1 .taken)) (c .refused .ensures)
 
 typed-requires : tie.Need-typed-requires
 typed-requires c κs = search needs
@@ -26,7 +24,7 @@ refused-requires-2 c κs = search needs
 returns-2 : tie.Need-returns-2
 unfolding applying
 returns-2 c =
-    rw (sym (c .before .before .before .before .widths-hold .ensures) ∙ not-false _ (c .before .before .before .if1 .left), sym (c .before .before .typed .ensures) ∙ not-true _ (c .before .if2 .taken)) (c .refused2 .ensures)
+    rw (passed (c .before .before .before .before .widths-hold .ensures) (c .before .before .before .if1 .left), failed (c .before .before .typed .ensures) (c .before .if2 .taken)) (c .refused2 .ensures)
 
 values-fit-requires : tie.Need-values-fit-requires
 values-fit-requires c κs = search needs
@@ -37,17 +35,17 @@ refused-requires-3 c κs = search needs
 returns-3 : tie.Need-returns-3
 unfolding applying
 returns-3 c =
-    rw (sym (c .before .before .before .before .before .before .widths-hold .ensures) ∙ not-false _ (c .before .before .before .before .before .if1 .left), sym (c .before .before .before .before .typed .ensures) ∙ not-false _ (c .before .before .before .if2 .left), sym (c .before .before .values-fit .ensures) ∙ not-true _ (c .before .if3 .taken)) (c .refused3 .ensures)
+    rw (passed (c .before .before .before .before .before .before .widths-hold .ensures) (c .before .before .before .before .before .if1 .left), passed (c .before .before .before .before .typed .ensures) (c .before .before .before .if2 .left), failed (c .before .before .values-fit .ensures) (c .before .if3 .taken)) (c .refused3 .ensures)
 
 evaluate-requires : tie.Need-evaluate-requires
 evaluate-requires c κs =
     let s = c .before .before .before .before .before .before .args in
-    given (s .op) (s .k) (s .a) (s .b) (s .c) (sym (c .before .before .before .before .before .widths-hold .ensures) ∙ not-false _ (c .before .before .before .before .if1 .left)) (sym (c .before .before .before .typed .ensures) ∙ not-false _ (c .before .before .if2 .left)) (sym (c .before .values-fit .ensures) ∙ not-false _ (c .if3 .left))
+    given (s .op) (s .k) (s .a) (s .b) (s .c) (passed (c .before .before .before .before .before .widths-hold .ensures) (c .before .before .before .before .if1 .left)) (passed (c .before .before .before .typed .ensures) (c .before .before .if2 .left)) (passed (c .before .values-fit .ensures) (c .if3 .left))
 
 returns-4 : tie.Need-returns-4
 unfolding applying meaning
 returns-4 c =
-    rw (sym (c .before .before .before .before .before .before .widths-hold .ensures) ∙ not-false _ (c .before .before .before .before .before .if1 .left), sym (c .before .before .before .before .typed .ensures) ∙ not-false _ (c .before .before .before .if2 .left), sym (c .before .before .values-fit .ensures) ∙ not-false _ (c .before .if3 .left)) (c .evaluate .ensures)
+    rw (passed (c .before .before .before .before .before .before .widths-hold .ensures) (c .before .before .before .before .before .if1 .left), passed (c .before .before .before .before .typed .ensures) (c .before .before .before .if2 .left), passed (c .before .before .values-fit .ensures) (c .before .if3 .left)) (c .evaluate .ensures)
 
 pub apply-spec : {M : Type 1} → statement M
 apply-spec =
