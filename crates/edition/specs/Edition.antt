@@ -1,13 +1,18 @@
 -- The editions of the format, and "Sizes of version 1.0 as we keep it".
 use Prim.Native.Nat.{ℕ}
-use mathlib.Core.Bool.{Bool, _&&_}
-use lib.Dec.{leb}
+use mathlib.Core.Bool.{Bool, cond, _&&_}
+use mathlib.Core.Option.{Option, none, some}
+use lib.Dec.{eqb, leb}
 use Rattle.edition.specs.declared.Edition.{Edition}
 use Rattle.edition.specs.declared.Limits.{Limits}
 
 -- version 1.0
 abbrev pub edition10 : Edition
 edition10 = record { major = 1; minor = 0 }
+
+-- the edition of a version's two numbers
+unfoldable pub editionNumbered : ℕ → ℕ → Option Edition
+editionNumbered major minor = cond (eqb major (edition10 .major) && eqb minor (edition10 .minor)) (some edition10) none
 
 -- the bytes of either file, at most
 abbrev pub maxFileBytes : ℕ

@@ -7,3 +7,4 @@ pub mod OrderLaws
 pub mod RuleLaws
 pub mod ResultLaws
 pub mod ReadingLaws
+pub mod NumberLaws

@@ -8,3 +8,4 @@ pub mod Apply
 pub mod Given
 pub mod Cases
 pub mod Claims
+pub mod Numbering

@@ -1,5 +1,6 @@
 // The claims: each is the contract of an empty function, so that a check lists it by name.
 ghost use Rattle.operator.specs.Cases.{TableCases};
+ghost use Rattle.operator.specs.Numbering.{NumbersGiveBack};
 ghost use Rattle.operator.specs.Claims.{Orders, ResultsFit, SignedReading, LargeAmounts};
 
 // The comparisons by flags are plain order, at every width.
@@ -25,4 +26,9 @@ pub fn large_amounts()
 // W1 to W12.
 pub fn table_cases()
     ensures { λ _. ⌜ TableCases ⌝ }
+{}
+
+// An operator's number gives the operator back.
+pub fn numbers_give_back()
+    ensures { λ _. ⌜ NumbersGiveBack ⌝ }
 {}

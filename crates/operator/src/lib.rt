@@ -13,12 +13,13 @@ pub mod bits;
 mod casts;
 pub mod claims;
 mod evaluate;
+pub mod numbering;
 mod orders;
 mod quotients;
 pub mod rules;
 mod shifts;
 mod sums;
-mod widths;
+pub mod widths;
 
 // The 31 operators, by kind; operators of one kind share their type rule.
 pub enum Operator {

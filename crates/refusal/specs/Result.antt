@@ -1,6 +1,7 @@
 -- A result is accepted or refused, and of several tests in a row the first that fails decides.
 use Prim.Native.Nat.{ℕ}
 use mathlib.Core.Bool.{Bool, true, false}
+use mathlib.Core.Option.{Option, none, some}
 use Rattle.refusal.specs.declared.Subject.{Subject}
 use Rattle.refusal.specs.declared.Refusal.{Refusal}
 
@@ -27,3 +28,8 @@ refused r >> next = refused r
 abbrev pub ensure : Bool → Refusal → Result (Unit {0})
 ensure true r = accepted tt
 ensure false r = refused r
+
+-- the value must be there
+abbrev pub given : {A : Type 0} → Option A → Refusal → Result A
+given (some a) r = accepted a
+given none r = refused r

@@ -1,0 +1,48 @@
+-- What holds of all that a result accepts, step by step of a `do` block. Assumes nothing.
+use Prim.Native.Nat.{ℕ}
+use mathlib.Core.Path.{_≡_, refl, subst}
+use mathlib.Core.Bool.{Bool, true, false, cond, _&&_}
+use mathlib.Core.Option.{Option, none, some}
+use native.Mathlib.Omega.{arith}
+use Rattle.refusal.specs.declared.Refusal.{Refusal}
+use Rattle.refusal.specs.Result.{Result, accepted, refused, ensure, given, _>>=_, _>>_}
+
+-- what has two different constructors is impossible: `never (cc e)`
+pub never : {A : Type 0} → _≡_ {A = ℕ} 0 1 → A
+never e = let z : ⊥ = omega arith in absurd z
+
+-- P holds of what r accepts
+pub record Yields {A : Type 0} (P : A → Type 0) (r : Result A) : Type 0 where
+  pub holds : (a : A) → r ≡ accepted a → P a
+
+pub yields-accepted : {A : Type 0} {P : A → Type 0} {a : A} → P a → Yields P (accepted a)
+yields-accepted {P} {a} h = record { holds = λ b e. subst P (cc e) h }
+
+pub yields-refused : {A : Type 0} {P : A → Type 0} {r : Refusal} → Yields P (refused r)
+yields-refused = record { holds = λ b e. never (cc e) }
+
+module _ {B : Type 0} {Q : B → Type 0} where
+  -- one of two results
+  pub yields-cond : (t : Bool) {x y : Result B} → Yields Q x → Yields Q y → Yields Q (cond t x y)
+  yields-cond true p q = p
+  yields-cond false p q = q
+
+  -- a step, then the next
+  pub yields-bind : {A : Type 0} {P : A → Type 0} {m : Result A} {next : A → Result B} → Yields P m → ((a : A) → P a → Yields Q (next a)) → Yields Q (m >>= next)
+  yields-bind {m = accepted a} h n = n a (h .holds a refl)
+  yields-bind {m = refused r} h n = yields-refused
+
+  -- a test, then the next
+  pub yields-ensure : (t : Bool) (r : Refusal) {next : Result B} → (t ≡ true → Yields Q next) → Yields Q (ensure t r >> next)
+  yields-ensure true r n = n refl
+  yields-ensure false r n = yields-refused
+
+  -- two tests, then the next
+  pub yields-both : (s t : Bool) (r : Refusal) {next : Result B} → (s ≡ true → t ≡ true → Yields Q next) → Yields Q (ensure (s && t) r >> next)
+  yields-both true t r n = yields-ensure t r (n refl)
+  yields-both false t r n = yields-refused
+
+  -- a value, then the next
+  pub yields-given : {A : Type 0} (o : Option A) (r : Refusal) {next : A → Result B} → ((a : A) → o ≡ some a → Yields Q (next a)) → Yields Q (given o r >>= next)
+  yields-given (some a) r n = n a refl
+  yields-given none r n = yields-refused

@@ -1,0 +1,7 @@
+-- Laws that belong to no one function.
+pub mod RunLaws
+pub mod LineLaws
+pub mod TokenLaws
+pub mod NumberLaws
+pub mod NameLaws
+pub mod ReadingLaws

@@ -1,0 +1,86 @@
+-- Names, and whether two texts are the same bytes. Assumes nothing.
+use Prim.Native.Nat.{ℕ, suc, _+_, _-_, _≤_, _<_}
+use mathlib.Core.Path.{_≡_, refl, ap, sym, _∙_}
+use mathlib.Core.List.{List, [], _∷_}
+use mathlib.Core.Bool.{Bool, true, false, _&&_}
+use native.Mathlib.Numerals.{add-one}
+use native.Mathlib.Nat.{add-zero, sub-zero}
+use native.Mathlib.Omega.{arith}
+use lib.Dec.{eqb}
+use lib.ListN.{length, getD, take, drop, length-take, length-drop, drop-of-length-le}
+use lib.Seq.{drop-cons, take-all, take-nil}
+use borrow.Author.Tests.{eq-eqb, ne-eqb}
+use Rattle.refusal.specs.Lists.{every}
+use Rattle.refusal.proofs.ResultLaws.{never}
+use Rattle.text.specs.Bytes.{same, isLetter, isNameByte}
+use Rattle.text.specs.Spelling.{isName}
+use Rattle.text.proofs.RunLaws.{and-false}
+
+-- a name at a place of f
+module _ (f : List ℕ) (at : ℕ) where
+  pub name-none : length f ≤ at → isName (drop at f) ≡ false
+  unfolding isName
+  name-none h = rw (drop-of-length-le f h)
+
+  pub name-at : at < length f → isName (drop at f) ≡ (isLetter (getD f at 0) && every isNameByte (drop (at + 1) f))
+  unfolding isName
+  name-at h = rw (drop-cons f at 0 h, add-one)
+
+-- a name has a first byte
+pub name-length : (s : List ℕ) → isName s ≡ true → 1 ≤ length s
+unfolding isName
+name-length [] e = never (cc e)
+name-length (b ∷ s) e = omega arith
+
+-- a text is the same as itself
+pub same-self : (s : List ℕ) → same s s ≡ true
+unfolding same
+same-self [] = refl
+same-self (b ∷ s) = rw (eq-eqb b b refl, same-self s)
+
+-- texts of other lengths differ
+pub same-unlike : (s t : List ℕ) → (length s ≡ length t → ⊥) → same s t ≡ false
+unfolding same
+same-unlike [] [] h = absurd (h refl)
+same-unlike [] (b ∷ t) h = refl
+same-unlike (a ∷ s) [] h = refl
+same-unlike (a ∷ s) (b ∷ t) h = rw (same-unlike s t (λ e. h (ap suc e)), and-false)
+
+-- the comparison from its i-th byte on
+unfoldable pub sameFrom : List ℕ → List ℕ → ℕ → ℕ → ℕ → ℕ → Bool
+sameFrom f t start len at i = same (take (len - i) (drop (start + i) f)) (drop (at + i) t)
+
+module _ (f t : List ℕ) (start len at : ℕ) where
+  pub same-first : sameFrom f t start len at 0 ≡ same (take len (drop start f)) (drop at t)
+  unfolding sameFrom
+  same-first = rw (add-zero start, add-zero at, sub-zero len)
+
+  pub same-short : start + len ≤ length f → (length t - at ≡ len → ⊥) → same (take len (drop start f)) (drop at t) ≡ false
+  same-short k h = same-unlike (take len (drop start f)) (drop at t) (λ e. h (omega (arith, simp (length-take, length-drop) at e)))
+
+  module _ (i : ℕ) (h : i < len) (k : start + i < length f) (l : at + i < length t) where
+    from-step : sameFrom f t start len at i ≡ (eqb (getD f (start + i) 0) (getD t (at + i) 0) && sameFrom f t start len at (i + 1))
+    unfolding sameFrom same
+    from-step =
+        let e : len - i ≡ suc (len - (i + 1)) = omega arith in
+        let e₁ : start + (i + 1) ≡ suc (start + i) = omega arith in
+        let e₂ : at + (i + 1) ≡ suc (at + i) = omega arith in
+        rw (e, e₁, e₂, drop-cons f (start + i) 0 k, drop-cons t (at + i) 0 l)
+
+    pub from-same : getD f (start + i) 0 ≡ getD t (at + i) 0 → sameFrom f t start len at (i + 1) ≡ sameFrom f t start len at i
+    from-same e = sym (from-step ∙ rw (eq-eqb _ _ e))
+
+    pub from-other : (getD f (start + i) 0 ≡ getD t (at + i) 0 → ⊥) → sameFrom f t start len at i ≡ false
+    from-other e = from-step ∙ rw (ne-eqb _ _ e)
+
+  pub from-end : (i : ℕ) → len ≤ i → length t ≤ at + i → sameFrom f t start len at i ≡ true
+  unfolding sameFrom same
+  from-end i h l = let e : len - i ≡ 0 = omega arith in rw (e, drop-of-length-le t l)
+
+-- a part of f that reaches past its end
+module _ (f : List ℕ) (start len : ℕ) where
+  pub part-outside : length f < start → take len (drop start f) ≡ []
+  part-outside h = let k : length f ≤ start = omega arith in rw (drop-of-length-le f k, take-nil)
+
+  pub part-short : length f - start < len → take len (drop start f) ≡ take (length f - start) (drop start f)
+  part-short h = take-all len (drop start f) (omega (arith, length-drop start f)) ∙ sym (take-all (length f - start) (drop start f) (omega (arith, length-drop start f)))

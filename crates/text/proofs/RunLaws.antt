@@ -1,0 +1,135 @@
+-- Runs of bytes that pass a test: where a run ends, what it is made of, and when it is the whole text. Assumes nothing.
+use Prim.Native.Nat.{ℕ, _+_, _≤_, _<_}
+use mathlib.Core.Path.{_≡_, refl, ap, sym, _∙_}
+use mathlib.Core.List.{List, [], _∷_}
+use mathlib.Core.Bool.{Bool, true, false, cond, _&&_}
+use native.Mathlib.Decide.{ℕ-discrete}
+use native.Mathlib.Numerals.{add-one}
+use native.Mathlib.Omega.{arith}
+use lib.Dec.{eqb, eqb·zero-suc, eqb·suc-suc}
+use lib.ListN.{length, getD, take, drop, length-take, length-drop, drop-of-length-le}
+use lib.Seq.{getD-drop, drop-cons, drop-at, take-add, length-take-le}
+use borrow.Author.Tests.{eq-eqb, ne-eqb}
+use Rattle.refusal.specs.Lists.{every}
+use Rattle.text.specs.Bytes.{run}
+use Rattle.text.specs.Scan.{past}
+
+-- both parts of a conjunction
+pub and-true : (a b : Bool) → (a && b) ≡ true → (a ≡ true) × (b ≡ true)
+and-true true b e = (refl, e)
+and-true false b e = let z : _≡_ {A = ℕ} 0 1 = cc e in let w : ⊥ = omega arith in absurd w
+
+pub and-false : (a : Bool) → (a && false) ≡ false
+and-false true = refl
+and-false false = refl
+
+-- a part of a text, counted from its start and from the text's
+pub drop-take : (n m : ℕ) (f : List ℕ) → n ≤ length f → drop n (take (n + m) f) ≡ take m (drop n f)
+drop-take n m f h = rw (take-add, drop-at (take n f) (take m (drop n f)) n (length-take-le n f h))
+
+-- a run is a front of what it is a run of
+pub run-take : (p : ℕ → Bool) (s : List ℕ) → run p s ≡ take (length (run p s)) s
+unfolding run
+run-take p [] = refl
+run-take p (b ∷ s) = go (p b) (run p s) (run-take p s)
+  where
+    go : (t : Bool) (r : List ℕ) → r ≡ take (length r) s → cond t (b ∷ r) [] ≡ take (length (cond t (b ∷ r) [])) (b ∷ s)
+    go true r ih = ap (λ (l : List ℕ). b ∷ l) ih
+    go false r ih = refl
+
+-- behind it stands a byte that does not pass
+run-fails : (p : ℕ → Bool) (s : List ℕ) → length (run p s) < length s → p (getD s (length (run p s)) 0) ≡ false
+unfolding run
+run-fails p [] h = absurd (omega arith)
+run-fails p (b ∷ s) h = go (p b) refl (run p s) (run-fails p s) h
+  where
+    go : (t : Bool) → p b ≡ t → (r : List ℕ) → (length r < length s → p (getD s (length r) 0) ≡ false) → length (cond t (b ∷ r) []) < length (b ∷ s) → p (getD (b ∷ s) (length (cond t (b ∷ r) [])) 0) ≡ false
+    go true e r ih h = ih (omega arith)
+    go false e r ih h = e
+
+-- every byte passes where the run is as long as the text
+every-run : (p : ℕ → Bool) (s : List ℕ) → every p s ≡ eqb (length (run p s)) (length s)
+unfolding run every
+every-run p [] = refl
+every-run p (b ∷ s) = go (p b) (run p s) (every-run p s)
+  where
+    go : (t : Bool) (r : List ℕ) → every p s ≡ eqb (length r) (length s) → (t && every p s) ≡ eqb (length (cond t (b ∷ r) [])) (length (b ∷ s))
+    go true r ih = ih ∙ sym (eqb·suc-suc (length r) (length s))
+    go false r ih = sym (eqb·zero-suc (length s))
+
+-- where the run at i ends, from one place to the next
+module _ (p : ℕ → Bool) (f : List ℕ) (i : ℕ) where
+  pub past-more : i < length f → p (getD f i 0) ≡ true → past p f (i + 1) ≡ past p f i
+  unfolding past run
+  past-more h e = rw (add-one, drop-cons f i 0 h, run, e) (omega arith)
+
+  pub past-stop : i < length f → p (getD f i 0) ≡ false → past p f i ≡ i
+  unfolding past run
+  past-stop h e = rw (drop-cons f i 0 h, run, e) (omega arith)
+
+  pub past-end : length f ≤ i → past p f i ≡ i
+  unfolding past run
+  past-end h = rw (drop-of-length-le f h) (omega arith)
+
+  pub past-ge : i ≤ past p f i
+  unfolding past
+  past-ge = omega arith
+
+  pub past-le : i ≤ length f → past p f i ≤ length f
+  unfolding past
+  past-le h = omega (arith, simp length-take at (ap length (run-take p (drop i f))), length-drop i f)
+
+  -- a byte that does not pass stands there, unless the text ends
+  pub past-fails : past p f i < length f → p (getD f (past p f i) 0) ≡ false
+  unfolding past
+  past-fails h = (ap p (sym (getD-drop i f (length (run p (drop i f))) 0))) ∙ run-fails p (drop i f) (omega (arith, length-drop i f))
+
+  -- the bytes of the run
+  pub run-part : i ≤ length f → run p (drop i f) ≡ drop i (take (past p f i) f)
+  unfolding past
+  run-part h = rw drop-take (run-take p (drop i f))
+
+  -- every byte from i on passes where the run ends with the text
+  pub every-past : i ≤ length f → every p (drop i f) ≡ eqb (past p f i) (length f)
+  unfolding past
+  every-past h =
+      let l = length-drop i f in
+      every-run p (drop i f)
+      ∙ elim (ℕ-discrete (length (run p (drop i f))) (length (drop i f))) [
+        | yes e ↦ (let z : i + length (run p (drop i f)) ≡ length f = omega arith in eq-eqb _ _ e ∙ sym (eq-eqb _ _ z))
+        | no e ↦ ne-eqb _ _ e ∙ sym (ne-eqb _ _ (λ (g : i + length (run p (drop i f)) ≡ length f). e (omega arith)))
+      ]
+
+-- every byte from i on passes: from one place to the next
+module _ (p : ℕ → Bool) (f : List ℕ) (i : ℕ) where
+  pub every-step : i < length f → every p (drop i f) ≡ (p (getD f i 0) && every p (drop (i + 1) f))
+  unfolding every
+  every-step h = rw (add-one, drop-cons f i 0 h, every)
+
+  pub every-pass : i < length f → p (getD f i 0) ≡ true → every p (drop i f) ≡ every p (drop (i + 1) f)
+  every-pass h e = every-step h ∙ rw e
+
+  pub every-fail : i < length f → p (getD f i 0) ≡ false → every p (drop i f) ≡ false
+  every-fail h e = every-step h ∙ rw e
+
+  pub every-head : i < length f → every p (drop i f) ≡ true → (p (getD f i 0) ≡ true) × (every p (drop (i + 1) f) ≡ true)
+  every-head h e = and-true _ _ (sym (every-step h) ∙ e)
+
+  pub every-end : length f ≤ i → every p (drop i f) ≡ true
+  unfolding every
+  every-end h = rw (drop-of-length-le f h)
+
+-- what a scan from `at` says that ends at m
+module _ (p : ℕ → Bool) (f : List ℕ) (at m : ℕ) (h : at ≤ length f) (hm : m ≡ past p f at) where
+  pub scan-bounds : (at ≤ m) × (m ≤ length f)
+  scan-bounds = (omega (arith, past-ge p f at), omega (arith, past-le p f at h))
+
+  pub scan-place : at + length (run p (drop at f)) ≡ m
+  unfolding past
+  scan-place = sym hm
+
+  pub scan-all : m ≡ length f → every p (drop at f) ≡ true
+  scan-all e = every-past p f at h ∙ eq-eqb _ _ (sym hm ∙ e)
+
+  pub scan-not : m < length f → every p (drop at f) ≡ false
+  scan-not l = every-past p f at h ∙ ne-eqb _ _ (λ (e : past p f at ≡ length f). let z : ⊥ = omega arith in absurd z)

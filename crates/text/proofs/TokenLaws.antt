@@ -1,0 +1,103 @@
+-- A line's tokens: the turn of a loop over them, and the parts of a token before and behind a byte. Assumes nothing.
+use Prim.Native.Nat.{ℕ, suc, _+_, _≤_, _<_}
+use mathlib.Core.Path.{_≡_, refl, ap, _∙_}
+use mathlib.Core.List.{List, [], _∷_}
+use mathlib.Core.Bool.{Bool, true, false, not}
+use native.Mathlib.Nat.{add-zero}
+use native.Mathlib.Omega.{arith}
+use lib.ListN.{length, getD, take, drop, drop-of-length-le}
+use lib.Seq.{drop-cons, drop-drop}
+use Rattle.text.specs.Bytes.{run, isSpace}
+use Rattle.text.specs.Lines.{Token, tokenOf, tokensFrom}
+use Rattle.text.specs.Spelling.{upTo, behind}
+use Rattle.text.specs.declared.Class.the-variants.{Until, Space, Solid}
+use Rattle.text.specs.Scan.{isOf, past}
+use Rattle.text.proofs.RunLaws.{past-more, past-ge, past-le, past-fails, run-part, scan-bounds}
+
+abbrev solid : ℕ → Bool
+solid b = not (isSpace b)
+
+-- the tokens behind the run at the front of the bytes s, which stand at `at`
+abbrev later : (ℕ → Bool) → ℕ → List ℕ → List Token
+later p at s = tokensFrom true (at + length (run p s)) (drop (length (run p s)) s)
+
+shift : (a n : ℕ) → a + 1 + n ≡ a + suc n
+shift a n = omega arith
+
+-- from white space
+tokens-spaces : (s : List ℕ) (at : ℕ) → tokensFrom true at s ≡ later isSpace at s
+unfolding tokensFrom run
+tokens-spaces [] at = refl
+tokens-spaces (b ∷ s) at = go (isSpace b) refl (tokens-spaces s (at + 1))
+  where
+    go : (t : Bool) → isSpace b ≡ t → tokensFrom true (at + 1) s ≡ later isSpace (at + 1) s → tokensFrom true at (b ∷ s) ≡ later isSpace at (b ∷ s)
+    go true e ih = rw e (ih ∙ rw shift)
+    go false e ih = rw (e, add-zero, e)
+
+-- from inside a token
+tokens-rest : (s : List ℕ) (at : ℕ) → tokensFrom false at s ≡ later solid at s
+unfolding tokensFrom run
+tokens-rest [] at = refl
+tokens-rest (b ∷ s) at = go (isSpace b) refl (tokens-rest s (at + 1))
+  where
+    go : (t : Bool) → isSpace b ≡ t → tokensFrom false (at + 1) s ≡ later solid (at + 1) s → tokensFrom false at (b ∷ s) ≡ later solid at (b ∷ s)
+    go true e ih = rw (e, add-zero, e)
+    go false e ih = rw e (ih ∙ rw shift)
+
+-- from the start of one
+tokens-cons : (s : List ℕ) (at b : ℕ) → isSpace b ≡ false → tokensFrom true at (b ∷ s) ≡ tokenOf at (b ∷ s) ∷ later solid at (b ∷ s)
+unfolding tokensFrom
+tokens-cons s at b e = rw e (ap (λ (l : List Token). tokenOf at (b ∷ s) ∷ l) (rw e at (tokens-rest (b ∷ s) at)))
+
+module _ (f : List ℕ) (i : ℕ) where
+  tokens-skip : tokensFrom true i (drop i f) ≡ tokensFrom true (past isSpace f i) (drop (past isSpace f i) f)
+  unfolding past
+  tokens-skip = tokens-spaces (drop i f) i ∙ rw drop-drop
+
+  pub tokens-end : length f ≤ i → tokensFrom true i (drop i f) ≡ []
+  unfolding tokensFrom
+  tokens-end h = rw (drop-of-length-le f h)
+
+  tokens-at : i < length f → isSpace (getD f i 0) ≡ false → tokensFrom true i (drop i f) ≡ record { start = i; bytes = drop i (take (past solid f i) f) } ∷ tokensFrom true (past solid f i) (drop (past solid f i) f)
+  unfolding past tokenOf
+  tokens-at h e = rw (← run-part solid f i (omega arith)) ((rw (← drop-cons f i 0 h) at (tokens-cons (drop (suc i) f) i (getD f i 0) e)) ∙ rw drop-drop)
+
+-- a turn of a loop over the tokens of a line: from i on, white space ends at b, and the token there ends at e
+module _ (line : List ℕ) (i b : ℕ) (hb : b ≡ past (isOf Space) line i) where
+  skipped : b ≡ past isSpace line i
+  unfolding isOf
+  skipped = hb
+
+  pub tokens-done : b ≡ length line → tokensFrom true i (drop i line) ≡ []
+  tokens-done h = tokens-skip line i ∙ rw (← skipped) (tokens-end line b (omega arith))
+
+  module _ (h : b < length line) (e : ℕ) (he : e ≡ past (isOf Solid) line b) where
+    at-token : isSpace (getD line b 0) ≡ false
+    at-token = rw skipped (past-fails isSpace line i (rw skipped at h))
+
+    stopped : e ≡ past solid line b
+    unfolding isOf
+    stopped = he
+
+    pub tokens-turn : tokensFrom true i (drop i line) ≡ record { start = b; bytes = drop b (take e line) } ∷ tokensFrom true e (drop e line)
+    tokens-turn = tokens-skip line i ∙ rw (← skipped, stopped) (tokens-at line b h at-token)
+
+    -- the token lies within the line, and is not empty
+    pub token-bounds : (i ≤ b) × (b < e) × (e ≤ length line)
+    token-bounds =
+        let s : solid (getD line b 0) ≡ true = rw at-token in
+        let m = past-more solid line b h s in
+        (omega (arith, past-ge (isOf Space) line i), omega (arith, past-ge solid line (b + 1), stopped), omega (arith, past-le solid line b (omega arith), stopped))
+
+-- the parts of a token before and behind its first byte c, which a scan from `at` finds at m
+module _ (f : List ℕ) (at c m : ℕ) (h : at ≤ length f) (hm : m ≡ past (isOf (Until c)) f at) where
+  pub find-bounds : (at ≤ m) × (m ≤ length f)
+  find-bounds = scan-bounds (isOf (Until c)) f at m h hm
+
+  pub up-to : upTo c (drop at f) ≡ drop at (take m f)
+  unfolding upTo isOf
+  up-to = run-part _ f at h ∙ rw hm
+
+  pub behind-it : behind c (drop at f) ≡ drop (m + 1) f
+  unfolding behind upTo past isOf
+  behind-it = let z : at + suc (length (upTo c (drop at f))) ≡ m + 1 = omega arith in drop-drop (suc (length (upTo c (drop at f)))) at f ∙ rw z

@@ -1,0 +1,45 @@
+-- Bytes.
+use Prim.Native.Nat.{ℕ}
+use Prim.Native.Char.{code}
+use mathlib.Core.Bool.{Bool, true, false, cond, _&&_, _||_}
+use mathlib.Core.List.{List, [], _∷_}
+use lib.Dec.{eqb, leb}
+
+-- whether two texts are the same bytes
+unfoldable pub same : List ℕ → List ℕ → Bool
+same [] [] = true
+same [] (b ∷ t) = false
+same (a ∷ s) [] = false
+same (a ∷ s) (b ∷ t) = eqb a b && same s t
+
+-- the longest front of s whose bytes all pass the test
+unfoldable pub run : (ℕ → Bool) → List ℕ → List ℕ
+run test [] = []
+run test (b ∷ s) = let more = b ∷ run test s in cond (test b) more []
+
+-- from a to z, both included
+abbrev pub within : ℕ → ℕ → ℕ → Bool
+within a z b = leb a b && leb b z
+
+-- "White space is spaces and tabs"
+unfoldable pub isSpace : ℕ → Bool
+isSpace b = eqb b (code " ") || eqb b (code "\t")
+
+-- LF
+unfoldable pub isLineFeed : ℕ → Bool
+isLineFeed b = eqb b (code "\n")
+
+-- the bytes allowed in a line: "tab, LF, 32 to 126", of which LF ends it
+unfoldable pub isAllowed : ℕ → Bool
+isAllowed b = eqb b (code "\t") || within 32 126 b
+
+-- digits and letters
+unfoldable pub isDigit : ℕ → Bool
+isDigit = within (code "0") (code "9")
+
+unfoldable pub isLetter : ℕ → Bool
+isLetter b = within (code "a") (code "z") b || within (code "A") (code "Z") b
+
+-- the bytes of a name behind its first: "letters, digits, underscores"
+unfoldable pub isNameByte : ℕ → Bool
+isNameByte b = isLetter b || isDigit b || eqb b (code "_")

@@ -1,0 +1,40 @@
+// Bytes, lines, tokens, names and numbers: what constraint files and answers share.
+// A piece of text is a prefix of its file and a start, so that places are places of the file.
+pub mod compare;
+pub mod numbers;
+pub mod scan;
+
+// A class of bytes.
+pub enum Class {
+    // Any byte but this one.
+    Until(u8),
+    Space,
+    // Any byte but white space.
+    Solid,
+    Digit,
+    NameByte,
+    Allowed,
+}
+
+// A token: where it starts, and where it stops.
+pub struct Span {
+    pub start: usize,
+    pub stop: usize,
+}
+
+pub enum Next {
+    Found(Span),
+    Nothing,
+}
+
+pub enum Number {
+    Value(u64),
+    TooBig,
+    Misspelt,
+}
+
+pub enum TypeRead {
+    Width(u64),
+    NoWidth,
+    NoType,
+}

@@ -1,0 +1,128 @@
+// Scanners: one loop for every class of bytes.
+use super::Class;
+use super::Next;
+use super::Span;
+ghost use mathlib.Core.Path.{_≡_};
+ghost use mathlib.Core.Bool.{true};
+ghost use Prim.Native.Nat.{_+_, _≤_, min};
+ghost use lib.ListN.{length, drop};
+ghost use Rattle.refusal.specs.Lists.{every};
+ghost use Rattle.text.specs.Bytes.{isSpace, isDigit, isLetter, isNameByte, isAllowed};
+ghost use Rattle.text.specs.Lines.{tokensFrom, leads as leadsBy};
+ghost use Rattle.text.specs.Spelling.{isName};
+ghost use Rattle.text.specs.Scan.{isOf, past, tokensBy, Within};
+
+fn is_space(b: u8) -> bool
+    ensures { λ r. ⌜ r ≡ isSpace b ⌝ }
+{
+    (b == b' ') | (b == b'\t')
+}
+
+fn is_digit(b: u8) -> bool
+    ensures { λ r. ⌜ r ≡ isDigit b ⌝ }
+{
+    (b'0' <= b) & (b <= b'9')
+}
+
+fn is_letter(b: u8) -> bool
+    ensures { λ r. ⌜ r ≡ isLetter b ⌝ }
+{
+    ((b'a' <= b) & (b <= b'z')) | ((b'A' <= b) & (b <= b'Z'))
+}
+
+fn is_name_byte(b: u8) -> bool
+    ensures { λ r. ⌜ r ≡ isNameByte b ⌝ }
+{
+    is_letter(b) | is_digit(b) | (b == b'_')
+}
+
+fn is_allowed(b: u8) -> bool
+    ensures { λ r. ⌜ r ≡ isAllowed b ⌝ }
+{
+    (b == b'\t') | ((b' ' <= b) & (b <= b'~'))
+}
+
+fn is_of(class: Class, b: u8) -> bool
+    ensures { λ r. ⌜ r ≡ isOf class b ⌝ }
+{
+    match class {
+        Class::Until(c) => b != c,
+        Class::Space => is_space(b),
+        Class::Solid => !is_space(b),
+        Class::Digit => is_digit(b),
+        Class::NameByte => is_name_byte(b),
+        Class::Allowed => is_allowed(b),
+    }
+}
+
+// The first place from `at` on whose byte is not of the class, or the end of the text.
+pub fn scan(text: &[u8], at: usize, class: Class) -> usize
+    requires { ⌜ at ≤ length (now text) ⌝ }
+    ensures { λ r. ⌜ r ≡ past (isOf class) (now (text .entry)) at ⌝ }
+{
+    let mut i = at;
+    while i < text.len() {
+        if is_of(class, text[i]) {
+            i += 1;
+        } else {
+            return i;
+        }
+    }
+    i
+}
+
+// Whether every byte from `at` on is of the class.
+pub fn all(text: &[u8], at: usize, class: Class) -> bool
+    requires { ⌜ at ≤ length (now text) ⌝ }
+    ensures { λ r. ⌜ r ≡ every (isOf class) (drop at (now (text .entry))) ⌝ }
+{
+    scan(text, at, class) == text.len()
+}
+
+// Where the line that stops at `stop` has its next line.
+pub fn next_line(file: &[u8], stop: usize) -> usize
+    requires { ⌜ stop ≤ length (now file) ⌝ }
+    ensures { λ r. ⌜ r ≡ min (stop + 1) (length (now (file .entry))) ⌝ }
+{
+    if stop < file.len() { stop + 1 } else { stop }
+}
+
+// The first token of a line from `at` on.
+pub fn next_token(line: &[u8], at: usize) -> Next
+    requires { ⌜ at ≤ length (now line) ⌝ }
+    ensures { λ r. ⌜ (tokensFrom true at (drop at (now (line .entry))) ≡ tokensBy (now (line .entry)) r) × Within (now (line .entry)) at r ⌝ }
+{
+    let start = scan(line, at, Class::Space);
+    if start == line.len() {
+        return Next::Nothing;
+    }
+    let stop = scan(line, start, Class::Solid);
+    Next::Found(Span { start, stop })
+}
+
+// Whether a name stands from `at` to the end.
+pub fn is_name(text: &[u8], at: usize) -> bool
+    requires { ⌜ at ≤ length (now text) ⌝ }
+    ensures { λ r. ⌜ r ≡ isName (drop at (now (text .entry))) ⌝ }
+{
+    if at == text.len() {
+        return false;
+    }
+    let next = at + 1;
+    is_letter(text[at]) & all(text, next, Class::NameByte)
+}
+
+// Whether the line from `at` on starts with a letter, then white space or the line's end.
+pub fn leads(line: &[u8], at: usize, letter: u8) -> bool
+    requires { ⌜ at ≤ length (now line) ⌝ }
+    ensures { λ r. ⌜ r ≡ leadsBy letter (drop at (now (line .entry))) ⌝ }
+{
+    if at == line.len() {
+        return false;
+    }
+    let next = at + 1;
+    if next == line.len() {
+        return letter == line[at];
+    }
+    (letter == line[at]) & is_space(line[next])
+}
