@@ -15,8 +15,6 @@ use operator::Extension;
 use operator::Operator;
 use operator::Shift;
 use operator::Word;
-use refusal::Refusal;
-use refusal::Subject;
 
 // The bytes of a line, with its line end.
 const LINE: usize = 66;
@@ -61,50 +59,14 @@ fn operator(number: u64) -> Operator {
     }
 }
 
-fn digit(c: u8) -> u64 {
-    match c {
-        b'0'..=b'9' => (c - b'0') as u64,
-        b'a'..=b'f' => (c - b'a') as u64 + 10,
-        _ => 0,
-    }
-}
-
-// The number that stands from `at` to `end`. Unlike a product by 16, the shift cannot overflow.
-fn hex(line: &[u8; LINE], at: usize, end: usize) -> u64
-    requires { ⌜ end ≤ 66 ⌝ }
-{
-    let mut value = 0;
-    for i in at..end {
-        value = (value << 4) | digit(line[i]);
-    }
-    value
-}
-
 // The operand that stands at `at`: two digits of its width, a colon, sixteen of its value.
 fn word(line: &[u8; LINE], at: usize) -> Word
     requires { ⌜ at + 19 ≤ 66 ⌝ }
 {
     Word {
-        width: hex(line, at, at + 2),
-        value: hex(line, at + 3, at + 19),
+        width: reporting::hex(line, at, at + 2),
+        value: reporting::hex(line, at + 3, at + 19),
     }
-}
-
-fn print_subject(subject: Subject) {
-    let label = subject.word();
-    let bytes = label.bytes;
-    let len = label.len;
-    io::write_all(STDOUT_FILENO, &bytes[..len]);
-}
-
-fn print_refusal(refusal: Refusal) {
-    io::write_all(STDOUT_FILENO, b"refused ");
-    io::print_decimal(STDOUT_FILENO, refusal.number as u64);
-    io::write_all(STDOUT_FILENO, b" ");
-    let subject = refusal.subject;
-    print_subject(subject);
-    io::write_all(STDOUT_FILENO, b" ");
-    io::print_decimal(STDOUT_FILENO, refusal.position as u64);
 }
 
 fn print_answer(answer: Applied) {
@@ -115,7 +77,7 @@ fn print_answer(answer: Applied) {
         Applied::ZeroDivisor => {
             io::write_all(STDOUT_FILENO, b"zero divisor");
         }
-        Applied::Refused(refusal) => print_refusal(refusal),
+        Applied::Refused(refusal) => reporting::print_refusal(refusal),
     }
     io::write_all(STDOUT_FILENO, b"\n");
 }
@@ -127,11 +89,11 @@ fn run_vector() -> bool {
     if n < LINE {
         return false;
     }
-    let number = hex(&line, 0, 2);
+    let number = reporting::hex(&line, 0, 2);
     if number > LAST {
         return false;
     }
-    let width = hex(&line, 3, 5);
+    let width = reporting::hex(&line, 3, 5);
     let a = word(&line, 6);
     let b = word(&line, 26);
     let c = word(&line, 46);

@@ -2,8 +2,9 @@
 use Prim.Native.Nat.{ℕ, suc, _+_, _<_}
 use mathlib.Core.Path.{_≡_, refl}
 use mathlib.Core.Bool.{Bool, true, false, not, cond}
-use mathlib.Core.List.{List, [], _∷_}
+use mathlib.Core.List.{List, [], _∷_, _++_}
 use mathlib.Core.Option.{Option, none, some}
+use native.Mathlib.Nat.{add-zero}
 use native.Mathlib.Omega.{arith}
 use lib.ListN.{length}
 use Rattle.refusal.specs.Lists.{firstFrom, isThere}
@@ -32,3 +33,22 @@ pub first-below : {A : Type 0} (test : A → Bool) (n i : ℕ) (xs : List A) →
 unfolding firstFrom
 first-below test n i [] e = never (cc e)
 first-below test n i (x ∷ xs) e = below (test x) n i (length xs) (firstFrom test (suc n) xs) (first-below test (suc n) i xs) e
+
+-- a first stays the first, whatever stands behind the list
+kept : (t : Bool) (n i : ℕ) (rest more : Option ℕ) → (rest ≡ some i → more ≡ some i) → cond t (some n) rest ≡ some i → cond t (some n) more ≡ some i
+kept true n i rest more h e = e
+kept false n i rest more h e = h e
+
+pub first-kept : {A : Type 0} (test : A → Bool) (n i : ℕ) (xs ys : List A) → firstFrom test n xs ≡ some i → firstFrom test n (xs ++ ys) ≡ some i
+unfolding firstFrom
+first-kept test n i [] ys e = never (cc e)
+first-kept test n i (x ∷ xs) ys e = kept (test x) n i (firstFrom test (suc n) xs) (firstFrom test (suc n) (xs ++ ys)) (first-kept test (suc n) i xs ys) e
+
+-- a list with no first leaves it to what stands behind
+pub first-behind : {A : Type 0} (test : A → Bool) (n : ℕ) (xs ys : List A) → firstFrom test n xs ≡ none → firstFrom test n (xs ++ ys) ≡ firstFrom test (n + length xs) ys
+unfolding firstFrom
+first-behind test n [] ys e = rw add-zero
+first-behind test n (x ∷ xs) ys e =
+    let h = first-none test n x xs e in
+    let k : suc n + length xs ≡ n + suc (length xs) = omega arith in
+    rw (h .0, ← k) (first-behind test (suc n) xs ys (h .1))

@@ -6,8 +6,8 @@ use Rattle.io.specs.Counts.{Counts}
 use Rattle.refusal.specs.Words.{label, subjectWord}
 use Rattle.refusal.specs.declared.Subject.{Subject}
 use Rattle.refusal.specs.declared.Subject.the-variants.{Constraint, Answer, Values, Verdicts, Output, Call}
-use Rattle.operator_vectors.proofs.print_subject.Statement.{statement}
-use Rattle.operator_vectors.proofs.print_subject.Tie as tie
+use Rattle.reporting.proofs.print_subject.Statement.{statement}
+use Rattle.reporting.proofs.print_subject.Tie as tie
 
 within : (s : Subject) → Counts (label (subjectWord s) .len) (label (subjectWord s) .bytes)
 within Constraint = (omega arith, refl)
