@@ -1,0 +1,36 @@
+-- What holds of each element of a list, and of one element more. Assumes nothing.
+use Prim.Native.Nat.{ℕ, suc}
+use mathlib.Core.Path.{_≡_}
+use mathlib.Core.Bool.{Bool, false}
+use mathlib.Core.List.{List, [], _∷_, _++_}
+use mathlib.Core.Option.{none}
+use lib.ListN.{length}
+use Rattle.refusal.specs.Lists.{firstFrom}
+use Rattle.refusal.proofs.ResultLaws.{never}
+use Rattle.refusal.proofs.ListLaws.{first-none}
+use Rattle.constraint.specs.File.{Variable}
+use Rattle.constraint.specs.Claims.{Each, Distinct}
+
+pub each-map : {A : Type 0} {P Q : A → Type 0} → ((x : A) → P x → Q x) → (xs : List A) → Each P xs → Each Q xs
+each-map h [] p = tt
+each-map h (x ∷ xs) p = (h x (p .0), each-map h xs (p .1))
+
+-- one element more
+pub each-last : {A : Type 0} (P : A → Type 0) (xs : List A) (x : A) → Each P xs → P x → Each P (xs ++ (x ∷ []))
+each-last P [] x p q = (q, tt)
+each-last P (y ∷ xs) x p q = (p .0, each-last P xs x (p .1) q)
+
+-- no element at all
+pub each-none : {A : Type 0} (P : A → Type 0) (xs : List A) → length xs ≡ 0 → Each P xs
+each-none P [] e = tt
+each-none P (x ∷ xs) e = never (cc e)
+
+-- where no element is the first to pass a test, each fails
+pub each-fails : {A : Type 0} (test : A → Bool) (n : ℕ) (xs : List A) → firstFrom test n xs ≡ none → Each (λ x. test x ≡ false) xs
+each-fails test n [] e = tt
+each-fails test n (x ∷ xs) e = let p = first-none test n x xs e in (p .0, each-fails test (suc n) xs (p .1))
+
+-- one variable more, whose name is new
+pub distinct-last : (xs : List Variable) (x : Variable) → Distinct xs → Each (λ y. y .name ≡ x .name → ⊥) xs → Distinct (xs ++ (x ∷ []))
+distinct-last [] x d h = (tt, tt)
+distinct-last (y ∷ xs) x d h = (each-last (λ z. y .name ≡ z .name → ⊥) xs x (d .0) (h .0), distinct-last xs x (d .1) (h .1))

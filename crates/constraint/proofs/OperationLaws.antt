@@ -1,0 +1,142 @@
+-- Lines that are read are sound. Assumes nothing.
+use Prim.Native.Nat.{ℕ, zero, suc, _<_}
+use Prim.Native.Char.{code}
+use mathlib.Core.List.{List}
+use native.Mathlib.Nat.{mod-lt}
+use native.Mathlib.Omega.{arith}
+use lib.Dec.{ltb, leb}
+use lib.ListN.{length, length-append}
+use lib.Pow.{pow-pos}
+use borrow.Author.Tests.{ltb-true}
+use Rattle.edition.specs.Edition.{maxLines, maxNameBytes, isWidth}
+use Rattle.refusal.specs.declared.Subject.the-variants.{Constraint}
+use Rattle.refusal.specs.Result.{Result}
+use Rattle.refusal.proofs.ResultLaws.{Yields, yields-accepted, yields-cond, yields-bind, yields-ensure, yields-both, yields-given}
+use Rattle.operator.specs.Rules.{arity}
+use Rattle.text.specs.Lines.{TextLine, Token, arguments}
+use Rattle.text.specs.Spelling.{isName, isNumeral, decimal, maxDigits, numberBound, isType, typeWidth, upTo, behind}
+use Rattle.text.proofs.ReadingLaws.{yields-next, yields-no-more}
+use Rattle.constraint.specs.declared.Operand.{Operand}
+use Rattle.constraint.specs.declared.Operand.the-variants.{Absent, Var, Const}
+use Rattle.constraint.specs.declared.Operands.{Operands}
+use Rattle.constraint.specs.declared.Line.{Line}
+use Rattle.constraint.specs.File.{Variable, File, withLine, edition, variableNamed}
+use Rattle.constraint.specs.Operators.{operatorNamed}
+use Rattle.constraint.specs.Types.{wellTyped}
+use Rattle.constraint.specs.Tables.{Storable, StorableLine}
+use Rattle.constraint.specs.Read.{readVariable, readConstant, readOperand, nextOperand, readOperands, readOperation, readConstraint, readPredicate}
+use Rattle.constraint.specs.Claims.{SoundOperand, SoundLine, SoundFile}
+use Rattle.constraint.proofs.EachLaws.{each-last}
+use Rattle.constraint.proofs.VariableLaws.{is-width, variable-within}
+
+-- ---- operands
+variable-yields : (xs : List Variable) (t : Token) → Yields (SoundOperand xs) (readVariable xs t)
+unfolding readVariable
+variable-yields xs t =
+    yields-ensure (leb (length (t .bytes)) maxNameBytes) _ λ _.
+    yields-given (variableNamed (t .bytes) xs) _ λ i e.
+    yields-accepted (variable-within (t .bytes) xs i e)
+
+constant-yields : (xs : List Variable) (t : Token) → Yields (SoundOperand xs) (readConstant t)
+unfolding readConstant
+constant-yields xs t =
+    let number = upTo (code ":") (t .bytes) in
+    let type = behind (code ":") (t .bytes) in
+    yields-both (isNumeral maxDigits number) (isType type) _ λ _ _.
+    yields-ensure (isWidth (typeWidth type)) _ λ w.
+    yields-ensure (ltb (decimal number) numberBound) _ λ _.
+    yields-accepted (is-width (typeWidth type) w, mod-lt (decimal number) (pow-pos (typeWidth type)))
+
+operand-yields : (xs : List Variable) (t : Token) → Yields (SoundOperand xs) (readOperand xs t)
+unfolding readOperand
+operand-yields xs t = yields-cond (isName (t .bytes)) (variable-yields xs t) (constant-yields xs t)
+
+next-yields : (xs : List Variable) (l : TextLine) (ts : List Token) → Yields (λ p. SoundOperand xs (p .0)) (nextOperand xs l ts)
+unfolding nextOperand
+next-yields xs l ts =
+    yields-next Constraint l ts λ p.
+    yields-bind (operand-yields xs (p .0)) λ o h.
+    yields-accepted h
+
+record SoundOperands (xs : List Variable) (os : Operands) : Type 0 where
+  first : SoundOperand xs (os .first)
+  second : SoundOperand xs (os .second)
+  third : SoundOperand xs (os .third)
+
+operands-yield : (xs : List Variable) (l : TextLine) (n : ℕ) (ts : List Token) → Yields (λ p. SoundOperands xs (p .0)) (readOperands xs l n ts)
+unfolding readOperands
+operands-yield xs l zero ts = yields-accepted (record { first = tt; second = tt; third = tt })
+operands-yield xs l (suc n) ts =
+    yields-bind (next-yields xs l ts) λ p h.
+    yields-bind (operands-yield xs l n (p .1)) λ q k.
+    yields-accepted (record { first = h; second = k .first; third = k .second })
+
+-- ---- lines
+-- one line more
+with-line : (f : File) (line : Line) → SoundFile f → length (f .lines) < maxLines → SoundLine (f .variables) line → SoundFile (withLine f line)
+with-line f line h room k = record {
+  few-variables = h .few-variables;
+  few-lines = rw length-append (omega arith);
+  variables = h .variables;
+  distinct = h .distinct;
+  lines = each-last (SoundLine (f .variables)) (f .lines) line (h .lines) k;
+}
+
+module _ (f : File) (l : TextLine) (h : SoundFile f) where
+  operation-keeps : (output : Operand) (ts : List Token) → SoundOperand (f .variables) output → length (f .lines) < maxLines → Yields (λ line. SoundFile (withLine f line)) (readOperation f l output ts)
+  unfolding readOperation
+  operation-keeps output ts o room =
+      yields-next Constraint l ts λ p.
+      yields-given (operatorNamed (edition f) (p .0 .bytes)) _ λ op _.
+      yields-bind (operands-yield (f .variables) l (arity op) (p .1)) λ q k.
+      let line : Line = record { output = output; operator = op; operands = q .0 } in
+      yields-no-more Constraint (q .1)
+      (yields-ensure (wellTyped (f .variables) line) _ λ w.
+      yields-accepted (with-line f line h room (record { typed = w; output = o; first = k .first; second = k .second; third = k .third })))
+
+  pub constraint-keeps : Yields (λ line. SoundFile (withLine f line)) (readConstraint f l)
+  unfolding readConstraint
+  constraint-keeps =
+      yields-ensure (ltb (length (f .lines)) maxLines) _ λ e.
+      yields-bind (next-yields (f .variables) l (arguments l)) λ p o.
+      operation-keeps (p .0) (p .1) o (ltb-true (length (f .lines)) maxLines e)
+
+  pub predicate-keeps : Yields (λ line. SoundFile (withLine f line)) (readPredicate f l)
+  unfolding readPredicate
+  predicate-keeps =
+      yields-ensure (ltb (length (f .lines)) maxLines) _ λ e.
+      operation-keeps Absent (arguments l) tt (ltb-true (length (f .lines)) maxLines e)
+
+-- ---- lines that are read have room in the table
+storable : (xs : List Variable) (o : Operand) → SoundOperand xs o → Storable o
+storable xs Absent h = tt
+storable xs (Var i) h = tt
+storable xs (Const w) h = h .0 .most
+
+module _ (f : File) (l : TextLine) where
+  operation-storable : (output : Operand) (ts : List Token) → SoundOperand (f .variables) output → Yields StorableLine (readOperation f l output ts)
+  unfolding readOperation
+  operation-storable output ts o =
+      yields-next Constraint l ts λ p.
+      yields-given (operatorNamed (edition f) (p .0 .bytes)) _ λ op _.
+      yields-bind (operands-yield (f .variables) l (arity op) (p .1)) λ q k.
+      let line : Line = record { output = output; operator = op; operands = q .0 } in
+      yields-no-more Constraint (q .1)
+      (yields-ensure (wellTyped (f .variables) line) _ λ w.
+      yields-accepted (record { output = storable (f .variables) output o; first = storable (f .variables) (q .0 .first) (k .first); second = storable (f .variables) (q .0 .second) (k .second); third = storable (f .variables) (q .0 .third) (k .third) }))
+
+  with-room : {r : Result Line} → length (f .lines) < maxLines → Yields StorableLine r → Yields (λ line. (length (f .lines) < maxLines) × StorableLine line) r
+  with-room h y = record { holds = λ line e. (h, y .holds line e) }
+
+  pub constraint-fits : Yields (λ line. (length (f .lines) < maxLines) × StorableLine line) (readConstraint f l)
+  unfolding readConstraint
+  constraint-fits =
+      yields-ensure (ltb (length (f .lines)) maxLines) _ λ e.
+      yields-bind (next-yields (f .variables) l (arguments l)) λ p o.
+      with-room (ltb-true (length (f .lines)) maxLines e) (operation-storable (p .0) (p .1) o)
+
+  pub predicate-fits : Yields (λ line. (length (f .lines) < maxLines) × StorableLine line) (readPredicate f l)
+  unfolding readPredicate
+  predicate-fits =
+      yields-ensure (ltb (length (f .lines)) maxLines) _ λ e.
+      with-room (ltb-true (length (f .lines)) maxLines e) (operation-storable Absent (arguments l) tt)

@@ -1,0 +1,48 @@
+-- `operator_at` meets its contract: the first of the four groups that has the spelling.
+use borrow.Author.Needs.{needs}
+use Rattle.constraint.proofs.SpellingLaws.{operator-is}
+use Rattle.constraint.proofs.spellings.operator_at.Statement.{statement}
+use Rattle.constraint.proofs.spellings.operator_at.Tie as tie
+
+bitwise-requires : tie.Need-bitwise-requires
+bitwise-requires c κs = search needs
+
+predicates-requires : tie.Need-predicates-requires
+predicates-requires c κs = search needs
+
+arithmetic-requires : tie.Need-arithmetic-requires
+arithmetic-requires c κs = search needs
+
+shifts-and-casts-requires : tie.Need-shifts-and-casts-requires
+shifts-and-casts-requires c κs = search needs
+
+either-requires : tie.Need-either-requires
+either-requires c κs = search needs
+
+either-requires-2 : tie.Need-either-requires-2
+either-requires-2 c κs = search needs
+
+either-requires-3 : tie.Need-either-requires-3
+either-requires-3 c κs = search needs
+
+returns : tie.Need-returns
+returns c = λ e.
+    let d = c .before .before .before in
+    let g = d .before in
+    let p = g .before in
+    let b = p .before in
+    rw (c .either3 .ensures, c .before .either2 .ensures, c .before .before .either .ensures)
+    (operator-is _ e (b .bitwise .result) (p .predicates .result) (g .arithmetic .result) (d .shifts-and-casts .result) (b .bitwise .ensures) (p .predicates .ensures) (g .arithmetic .ensures) (d .shifts-and-casts .ensures))
+
+pub operator-at-spec : {M : Type 1} → statement M
+operator-at-spec =
+    tie.close
+    (tie.spec
+    bitwise-requires
+    predicates-requires
+    arithmetic-requires
+    shifts-and-casts-requires
+    either-requires
+    either-requires-2
+    either-requires-3
+    returns)

@@ -1,0 +1,10 @@
+pub mod File
+pub mod Types
+pub mod Operators
+pub mod Read
+pub mod Inspect
+pub mod Claims
+pub mod Tables
+pub mod Words
+pub mod Typing
+pub mod Answers

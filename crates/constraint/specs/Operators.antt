@@ -1,0 +1,58 @@
+-- The operators' spellings, by edition.
+use Prim.Native.Nat.{ℕ}
+use Prim.Native.String.{String}
+use mathlib.Core.Bool.{Bool, cond}
+use mathlib.Core.List.{List, [], _∷_, _++_}
+use mathlib.Core.Option.{Option, none, some}
+use Rattle.edition.specs.declared.Edition.{Edition}
+use Rattle.operator.specs.declared.Operator.{Operator}
+use Rattle.operator.specs.declared.Operator.the-variants.{Combine, Not, Implies, Compare, Ite, Compute, Divide, Move, Trun, Extend, Conc, Extr}
+use Rattle.operator.specs.declared.Bitwise.the-variants.{And, Or, Xor}
+use Rattle.operator.specs.declared.Comparison.the-variants.{Equal, NotEqual, Ule, Uge, Ult, Ugt, Sle, Sge, Slt, Sgt}
+use Rattle.operator.specs.declared.Arithmetic.the-variants.{Add, Sub, Mul}
+use Rattle.operator.specs.declared.Division.the-variants.{Udiv, Sdiv, Urem, Srem}
+use Rattle.operator.specs.declared.Shift.the-variants.{Shl, Ashr, Lshr}
+use Rattle.operator.specs.declared.Extension.the-variants.{Sext, Zext}
+use Rattle.refusal.specs.Lists.{isThere}
+use Rattle.refusal.specs.Words.{ascii}
+use Rattle.text.specs.Bytes.{same}
+
+-- the spellings, by 003's sections: 7.1
+unfoldable pub bitwise : List (String × Operator)
+bitwise = ("&", Combine And) ∷ ("|", Combine Or) ∷ ("^", Combine Xor) ∷ ("~", Not) ∷ []
+
+-- 7.2
+unfoldable pub predicates : List (String × Operator)
+predicates =
+    ("=>", Implies) ∷ ("=", Compare Equal) ∷ ("/=", Compare NotEqual)
+    ∷ ("ule", Compare Ule) ∷ ("uge", Compare Uge) ∷ ("ult", Compare Ult) ∷ ("ugt", Compare Ugt)
+    ∷ ("sle", Compare Sle) ∷ ("sge", Compare Sge) ∷ ("slt", Compare Slt) ∷ ("sgt", Compare Sgt) ∷ []
+
+-- 7.3 and 7.4
+unfoldable pub arithmetic : List (String × Operator)
+arithmetic =
+    ("ite", Ite) ∷ ("+", Compute Add) ∷ ("-", Compute Sub) ∷ ("*", Compute Mul)
+    ∷ ("/u", Divide Udiv) ∷ ("/s", Divide Sdiv) ∷ ("%u", Divide Urem) ∷ ("%s", Divide Srem) ∷ []
+
+-- 7.5 and 7.6
+unfoldable pub shiftsAndCasts : List (String × Operator)
+shiftsAndCasts =
+    ("<<", Move Shl) ∷ (">>a", Move Ashr) ∷ (">>l", Move Lshr)
+    ∷ ("trun", Trun) ∷ ("sext", Extend Sext) ∷ ("zext", Extend Zext) ∷ ("conc", Conc) ∷ ("extr", Extr) ∷ []
+
+-- the spellings of an edition's operators
+unfoldable pub spellings : Edition → List (String × Operator)
+spellings e = bitwise ++ predicates ++ arithmetic ++ shiftsAndCasts
+
+-- the operator of the first spelling that is s
+unfoldable pub spelt : List ℕ → List (String × Operator) → Option Operator
+spelt s [] = none
+spelt s (x ∷ xs) = let rest = spelt s xs in cond (same (ascii (x .0)) s) (some (x .1)) rest
+
+-- the operator that s spells in an edition
+abbrev pub operatorNamed : Edition → List ℕ → Option Operator
+operatorNamed e s = spelt s (spellings e)
+
+-- "The 14 word operators are reserved": of the operators' spellings these 14 are names
+abbrev pub isReserved : Edition → List ℕ → Bool
+isReserved e s = isThere (operatorNamed e s)

@@ -1,0 +1,143 @@
+// Names: looking one up, using one, declaring one.
+use super::Declaration;
+use super::Found;
+use super::Operand;
+use super::OperandRead;
+use super::constants::constant;
+use super::spellings::is_reserved;
+use edition::Edition;
+use refusal::Refusal;
+use text::Class;
+use text::TypeRead;
+use text::compare::same_part;
+use text::numbers::type_behind;
+use text::scan::is_name;
+use text::scan::scan;
+ghost use mathlib.Core.Path.{_≡_};
+ghost use mathlib.Core.List.{List};
+ghost use Prim.Native.Nat.{ℕ, _≤_};
+ghost use lib.ListN.{length, drop};
+ghost use Rattle.edition.specs.declared.Edition.{Edition as TheEdition};
+ghost use Rattle.edition.specs.Edition.{maxVariables};
+ghost use Rattle.constraint.specs.File.{variableNamed};
+ghost use Rattle.constraint.specs.Tables.{variablesIn};
+ghost use Rattle.constraint.specs.Read.{readVariable, readOperand, declare as declareBy};
+ghost use Rattle.constraint.specs.Answers.{tokenAt, place, operandResult, declarationResult, newName, Fits};
+
+// The first of the n variables whose name is the bytes from `at` to the end of the text.
+pub fn lookup<'a>(
+    file: &[u8],
+    starts: &'a [usize; Edition::VARIABLES],
+    lens: &'a [usize; Edition::VARIABLES],
+    n: usize,
+    text: &[u8],
+    at: usize,
+) -> Found
+    requires { ⌜ (at ≤ length (now text)) × (n ≤ maxVariables) ⌝ }
+    ensures { λ r. ⌜ ((widths : List ℕ) → place r ≡ variableNamed (drop at (now (text .entry))) (variablesIn (now (file .entry)) (now (starts .entry)) (now (lens .entry)) widths n)) ⌝ }
+{
+    let mut i = 0;
+    while i < n {
+        let start = starts[i];
+        let len = lens[i];
+        if same_part(file, start, len, text, at) {
+            return Found::At(i);
+        }
+        i += 1;
+    }
+    Found::Nowhere
+}
+
+// A variable that is used.
+fn variable<'a>(
+    file: &[u8],
+    starts: &'a [usize; Edition::VARIABLES],
+    lens: &'a [usize; Edition::VARIABLES],
+    n: usize,
+    text: &[u8],
+    at: usize,
+) -> OperandRead
+    requires { ⌜ (at ≤ length (now text)) × (n ≤ maxVariables) ⌝ }
+    ensures { λ r. ⌜ ((widths : List ℕ) → operandResult (tokenAt (now (text .entry)) at) r ≡ readVariable (variablesIn (now (file .entry)) (now (starts .entry)) (now (lens .entry)) widths n) (tokenAt (now (text .entry)) at)) ⌝ }
+{
+    if Edition::NAME_BYTES < text.len() - at {
+        return OperandRead::Bad(Refusal::OVER_LIMIT);
+    }
+    match lookup(file, starts, lens, n, text, at) {
+        Found::At(i) => OperandRead::Good(Operand::Var(i)),
+        Found::Nowhere => OperandRead::Bad(Refusal::NOT_DECLARED),
+    }
+}
+
+// The operand from `at` to the end of the text.
+pub fn operand<'a>(
+    file: &[u8],
+    starts: &'a [usize; Edition::VARIABLES],
+    lens: &'a [usize; Edition::VARIABLES],
+    n: usize,
+    text: &[u8],
+    at: usize,
+) -> OperandRead
+    requires { ⌜ (at ≤ length (now text)) × (n ≤ maxVariables) ⌝ }
+    ensures { λ r. ⌜ ((widths : List ℕ) → operandResult (tokenAt (now (text .entry)) at) r ≡ readOperand (variablesIn (now (file .entry)) (now (starts .entry)) (now (lens .entry)) widths n) (tokenAt (now (text .entry)) at)) ⌝ }
+{
+    if is_name(text, at) {
+        variable(file, starts, lens, n, text, at)
+    } else {
+        constant(text, at)
+    }
+}
+
+// A name from `at` to the end of the text that is new: not reserved, not declared, and there is room for it.
+fn new_name<'a>(
+    file: &[u8],
+    starts: &'a [usize; Edition::VARIABLES],
+    lens: &'a [usize; Edition::VARIABLES],
+    n: usize,
+    text: &[u8],
+    at: usize,
+    k: u64,
+) -> Declaration
+    requires { ⌜ (at ≤ length (now text)) × (n ≤ maxVariables) ⌝ }
+    ensures { λ r. ⌜ ((e : TheEdition) (widths : List ℕ) → r ≡ newName e (variablesIn (now (file .entry)) (now (starts .entry)) (now (lens .entry)) widths n) (drop at (now (text .entry))) k) × Fits n at (length (now (text .entry))) r ⌝ }
+{
+    let len = text.len() - at;
+    if Edition::NAME_BYTES < len {
+        return Declaration::Faulty(Refusal::OVER_LIMIT);
+    }
+    if Edition::VARIABLES <= n {
+        return Declaration::Faulty(Refusal::OVER_LIMIT);
+    }
+    if is_reserved(text, at) {
+        return Declaration::Faulty(Refusal::NAME_TAKEN);
+    }
+    match lookup(file, starts, lens, n, text, at) {
+        Found::At(_) => Declaration::Faulty(Refusal::NAME_TAKEN),
+        Found::Nowhere => Declaration::Fresh(len, k),
+    }
+}
+
+// What the declaration from `at` to the end of the text says.
+pub fn declare<'a>(
+    file: &[u8],
+    starts: &'a [usize; Edition::VARIABLES],
+    lens: &'a [usize; Edition::VARIABLES],
+    n: usize,
+    text: &[u8],
+    at: usize,
+) -> Declaration
+    requires { ⌜ (at ≤ length (now text)) × (n ≤ maxVariables) ⌝ }
+    ensures { λ r. ⌜ ((e : TheEdition) (widths : List ℕ) → declarationResult (tokenAt (now (text .entry)) at) r ≡ declareBy e (variablesIn (now (file .entry)) (now (starts .entry)) (now (lens .entry)) widths n) (tokenAt (now (text .entry)) at)) × Fits n at (length (now (text .entry))) r ⌝ }
+{
+    let colon = scan(text, at, Class::Until(b':'));
+    let kind = type_behind(text, colon);
+    if is_name(&text[..colon], at) {
+        match kind {
+            TypeRead::NoType => Declaration::Faulty(Refusal::MISSPELT),
+            TypeRead::NoWidth => Declaration::Faulty(Refusal::NOT_A_WIDTH),
+            TypeRead::Width(k) => new_name(file, starts, lens, n, &text[..colon], at, k),
+        }
+    } else {
+        Declaration::Faulty(Refusal::MISSPELT)
+    }
+}

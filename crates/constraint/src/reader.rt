@@ -1,0 +1,213 @@
+// Reading a file into tables, line by line.
+use super::Expectation;
+use super::Kind;
+use super::LineRead;
+use super::Progress;
+use super::Step;
+use super::Version;
+use super::declarations::declaration_line;
+use super::header::expectation_line;
+use super::header::refusal;
+use super::header::version_line;
+use super::operations::constraint_line;
+use super::operations::predicate_line;
+use super::tables::TABLE_WORDS;
+use super::tables::store_line;
+use edition::Edition;
+use refusal::Refusal;
+use text::Class;
+use text::scan::all;
+use text::scan::leads;
+use text::scan::next_line;
+use text::scan::scan;
+ghost use mathlib.Core.Path.{_≡_};
+ghost use mathlib.Core.List.{List};
+ghost use Prim.Native.Nat.{ℕ, _<_, _≤_};
+ghost use lib.ListN.{length, take, drop};
+ghost use Rattle.edition.specs.Edition.{maxLines};
+ghost use Rattle.refusal.specs.declared.Subject.the-variants.{Constraint as TheConstraint};
+ghost use Rattle.text.specs.Lines.{lines as linesOf};
+ghost use Rattle.text.specs.Reading.{readAnyLine, readLines};
+ghost use Rattle.constraint.specs.File.{emptyFile};
+ghost use Rattle.constraint.specs.Tables.{tableWords};
+ghost use Rattle.constraint.specs.Read.{kindOf, addLine, readLine, readFile};
+ghost use Rattle.constraint.specs.Answers.{lineResult, HasRoom, nothingRead, withLineRead, lineAt, held, Whole, fileHeld, stepResult, InTables, StepInTables};
+
+// The kind of the line from `at` to the end.
+fn kind_of(line: &[u8], at: usize) -> Kind
+    requires { ⌜ at < length (now line) ⌝ }
+    ensures { λ r. ⌜ r ≡ kindOf (drop at (now (line .entry))) ⌝ }
+{
+    if line[at] == b'#' {
+        return Kind::Skipped;
+    }
+    if leads(line, at, b'v') {
+        return Kind::OfVersion;
+    }
+    if leads(line, at, b'e') {
+        return Kind::OfExpectation;
+    }
+    if leads(line, at, b'd') {
+        return Kind::OfDeclarations;
+    }
+    if leads(line, at, b'c') {
+        return Kind::OfConstraint;
+    }
+    if leads(line, at, b'p') {
+        return Kind::OfPredicate;
+    }
+    Kind::OfNoKind
+}
+
+fn with_line(p: Progress) -> Progress
+    requires { ⌜ p .lines < maxLines ⌝ }
+    ensures { λ r. ⌜ r ≡ withLineRead p ⌝ }
+{
+    let version = p.version;
+    let expectation = p.expectation;
+    Progress {
+        version,
+        expectation,
+        variables: p.variables,
+        lines: p.lines + 1,
+    }
+}
+
+// Puts a line that was read behind those that are held.
+fn add_line(lines: &mut [u64; TABLE_WORDS], p: Progress, read: LineRead) -> Step
+    requires { ⌜ (length (now lines) ≡ tableWords) × InTables p × HasRoom p read ⌝ }
+    ensures { λ r. ⌜ ((file starts lens widths : List ℕ) → stepResult file (held starts lens widths (now (lines .exit))) r ≡ addLine (fileHeld file (held starts lens widths (now (lines .entry))) p) (lineResult read)) × (length (now (lines .exit)) ≡ tableWords) × StepInTables r ⌝ }
+{
+    match read {
+        LineRead::NoLine(r) => Step::Stop(r),
+        LineRead::HasLine(line) => {
+            let n = p.lines;
+            store_line(lines, n, line);
+            Step::Next(with_line(p))
+        }
+    }
+}
+
+// Reads the line that stops at `stop`, from `at` on; it is not blank.
+fn read_line(
+    file: &[u8],
+    stop: usize,
+    at: usize,
+    starts: &mut [usize; Edition::VARIABLES],
+    lens: &mut [usize; Edition::VARIABLES],
+    widths: &mut [u64; Edition::VARIABLES],
+    lines: &mut [u64; TABLE_WORDS],
+    p: Progress,
+) -> Step
+    requires { ⌜ (at < stop) × (stop ≤ length (now file)) × InTables p × Whole (held (now starts) (now lens) (now widths) (now lines)) ⌝ }
+    ensures { λ r. ⌜ ((next : ℕ) → stepResult (now (file .entry)) (held (now (starts .exit)) (now (lens .exit)) (now (widths .exit)) (now (lines .exit))) r ≡ readLine (fileHeld (now (file .entry)) (held (now (starts .entry)) (now (lens .entry)) (now (widths .entry)) (now (lines .entry))) p) (lineAt (take stop (now (file .entry))) at next)) × Whole (held (now (starts .exit)) (now (lens .exit)) (now (widths .exit)) (now (lines .exit))) × StepInTables r ⌝ }
+{
+    let n = p.variables;
+    let m = p.lines;
+    match kind_of(&file[..stop], at) {
+        Kind::Skipped => Step::Next(p),
+        Kind::OfVersion => version_line(&file[..stop], at, p),
+        Kind::OfExpectation => expectation_line(&file[..stop], at, p),
+        Kind::OfDeclarations => declaration_line(file, stop, at, starts, lens, widths, p),
+        Kind::OfConstraint => {
+            let read = constraint_line(file, starts, lens, widths, n, m, &file[..stop], at);
+            add_line(lines, p, read)
+        }
+        Kind::OfPredicate => {
+            let read = predicate_line(file, starts, lens, widths, n, m, &file[..stop], at);
+            add_line(lines, p, read)
+        }
+        Kind::OfNoKind => Step::Stop(refusal(Refusal::UNKNOWN_LINE, at)),
+    }
+}
+
+// Reads any line: a byte that is not allowed is found first, and a blank line is passed over.
+fn read_any_line(
+    file: &[u8],
+    stop: usize,
+    at: usize,
+    starts: &mut [usize; Edition::VARIABLES],
+    lens: &mut [usize; Edition::VARIABLES],
+    widths: &mut [u64; Edition::VARIABLES],
+    lines: &mut [u64; TABLE_WORDS],
+    p: Progress,
+) -> Step
+    requires { ⌜ (at ≤ stop) × (stop ≤ length (now file)) × InTables p × Whole (held (now starts) (now lens) (now widths) (now lines)) ⌝ }
+    ensures { λ r. ⌜ ((next : ℕ) → stepResult (now (file .entry)) (held (now (starts .exit)) (now (lens .exit)) (now (widths .exit)) (now (lines .exit))) r ≡ readAnyLine TheConstraint readLine (fileHeld (now (file .entry)) (held (now (starts .entry)) (now (lens .entry)) (now (widths .entry)) (now (lines .entry))) p) (lineAt (take stop (now (file .entry))) at next)) × Whole (held (now (starts .exit)) (now (lens .exit)) (now (widths .exit)) (now (lines .exit))) × StepInTables r ⌝ }
+{
+    let bad = scan(&file[..stop], at, Class::Allowed);
+    if bad < stop {
+        return Step::Stop(refusal(Refusal::BYTE_NOT_ALLOWED, bad));
+    }
+    if all(&file[..stop], at, Class::Space) {
+        return Step::Next(p);
+    }
+    read_line(file, stop, at, starts, lens, widths, lines, p)
+}
+
+// Nothing read yet.
+fn nothing() -> Progress
+    ensures { λ r. ⌜ r ≡ nothingRead ⌝ }
+{
+    Progress {
+        version: Version::NoVersion,
+        expectation: Expectation::NoExpectation,
+        variables: 0,
+        lines: 0,
+    }
+}
+
+// Reads all lines.
+fn read_lines(
+    file: &[u8],
+    starts: &mut [usize; Edition::VARIABLES],
+    lens: &mut [usize; Edition::VARIABLES],
+    widths: &mut [u64; Edition::VARIABLES],
+    lines: &mut [u64; TABLE_WORDS],
+) -> Step
+    requires { ⌜ Whole (held (now starts) (now lens) (now widths) (now lines)) ⌝ }
+    ensures { λ r. ⌜ (stepResult (now (file .entry)) (held (now (starts .exit)) (now (lens .exit)) (now (widths .exit)) (now (lines .exit))) r ≡ readLines TheConstraint readLine emptyFile (linesOf (now (file .entry)))) × Whole (held (now (starts .exit)) (now (lens .exit)) (now (widths .exit)) (now (lines .exit))) × StepInTables r ⌝ }
+{
+    let mut p = nothing();
+    let mut i = 0;
+    while i < file.len() {
+        let stop = scan(file, i, Class::Until(b'\n'));
+        let next = next_line(file, stop);
+        match read_any_line(file, stop, i, starts, lens, widths, lines, p) {
+            Step::Stop(r) => {
+                return Step::Stop(r);
+            }
+            Step::Next(q) => {
+                p = q;
+            }
+        }
+        i = next;
+    }
+    Step::Next(p)
+}
+
+// Reads a file into tables.
+pub fn read(
+    file: &[u8],
+    starts: &mut [usize; Edition::VARIABLES],
+    lens: &mut [usize; Edition::VARIABLES],
+    widths: &mut [u64; Edition::VARIABLES],
+    lines: &mut [u64; TABLE_WORDS],
+) -> Step
+    requires { ⌜ Whole (held (now starts) (now lens) (now widths) (now lines)) ⌝ }
+    ensures { λ r. ⌜ (stepResult (now (file .entry)) (held (now (starts .exit)) (now (lens .exit)) (now (widths .exit)) (now (lines .exit))) r ≡ readFile (now (file .entry))) × Whole (held (now (starts .exit)) (now (lens .exit)) (now (widths .exit)) (now (lines .exit))) × StepInTables r ⌝ }
+{
+    if Edition::FILE_BYTES < file.len() {
+        return Step::Stop(refusal(Refusal::FILE_TOO_LONG, Edition::FILE_BYTES));
+    }
+    match read_lines(file, starts, lens, widths, lines) {
+        Step::Stop(r) => Step::Stop(r),
+        Step::Next(p) => {
+            let version = p.version;
+            match version {
+                Version::NoVersion => Step::Stop(refusal(Refusal::MISPLACED_LINE, file.len())),
+                Version::HasVersion(_) => Step::Next(p),
+            }
+        }
+    }
+}

@@ -1,0 +1,121 @@
+// The line table: nine words to a line. No other module knows how a line is laid out.
+use super::Line;
+use super::Operand;
+use super::Operands;
+use edition::Edition;
+use operator::Word;
+use operator::numbering::number;
+use operator::numbering::numbered;
+ghost use mathlib.Core.Path.{_≡_};
+ghost use mathlib.Core.List.{[], _∷_, _++_};
+ghost use Prim.Native.Nat.{_+_, _<_, _≤_};
+ghost use lib.ListN.{length, getD, set};
+ghost use Rattle.edition.specs.Edition.{maxLines};
+ghost use Rattle.constraint.specs.Tables.{tableWords, operandOf, operandIn, lineIn, linesIn, Storable, StorableLine};
+ghost use Rattle.constraint.specs.Words.{headOf, bodyOf, withOperand};
+
+// The words of a line.
+const LINE_WORDS: usize = 9;
+
+pub const TABLE_WORDS: usize = Edition::LINES * LINE_WORDS;
+
+// What the first word of an operand says.
+const ABSENT: u64 = 0;
+
+const VARIABLE: u64 = 1;
+
+const CONSTANT: u64 = 2;
+
+fn head(o: Operand) -> u64
+    requires { ⌜ Storable o ⌝ }
+    ensures { λ r. ⌜ r ≡ headOf o ⌝ }
+{
+    match o {
+        Operand::Absent => ABSENT,
+        Operand::Var(_) => VARIABLE,
+        Operand::Const(w) => w.width + CONSTANT,
+    }
+}
+
+fn body(o: Operand) -> u64
+    ensures { λ r. ⌜ r ≡ bodyOf o ⌝ }
+{
+    match o {
+        Operand::Absent => 0,
+        Operand::Var(i) => i as u64,
+        Operand::Const(w) => w.value,
+    }
+}
+
+// The operand of two words.
+fn operand(head: u64, body: u64) -> Operand
+    ensures { λ r. ⌜ r ≡ operandOf head body ⌝ }
+{
+    if head == ABSENT {
+        return Operand::Absent;
+    }
+    if head == VARIABLE {
+        return Operand::Var(body as usize);
+    }
+    Operand::Const(Word {
+        width: head - CONSTANT,
+        value: body,
+    })
+}
+
+fn store_operand(table: &mut [u64; TABLE_WORDS], i: usize, o: Operand)
+    requires { ⌜ (length (now table) ≡ tableWords) × (i + 1 < tableWords) × Storable o ⌝ }
+    ensures { λ _. ⌜ (length (now (table .exit)) ≡ tableWords) × (now (table .exit) ≡ withOperand (now (table .entry)) i o) ⌝ }
+{
+    table[i] = head(o);
+    let next = i + 1;
+    table[next] = body(o);
+}
+
+fn load_operand(table: &[u64; TABLE_WORDS], i: usize) -> Operand
+    requires { ⌜ (length (now table) ≡ tableWords) × (i + 1 < tableWords) ⌝ }
+    ensures { λ r. ⌜ r ≡ operandIn (now (table .entry)) i ⌝ }
+{
+    let next = i + 1;
+    operand(table[i], table[next])
+}
+
+// Puts a line at place n, behind the lines that are held.
+pub fn store_line(table: &mut [u64; TABLE_WORDS], n: usize, line: Line)
+    requires { ⌜ (length (now table) ≡ tableWords) × (n < maxLines) × StorableLine line ⌝ }
+    ensures { λ _. ⌜ (length (now (table .exit)) ≡ tableWords) × (linesIn (now (table .exit)) (n + 1) ≡ linesIn (now (table .entry)) n ++ (line ∷ [])) ⌝ }
+{
+    let i = n * LINE_WORDS;
+    let operands = line.operands;
+    let op = line.operator;
+    table[i] = number(op);
+    let output = line.output;
+    store_operand(table, i + 1, output);
+    let first = operands.first;
+    store_operand(table, i + 3, first);
+    let second = operands.second;
+    store_operand(table, i + 5, second);
+    let third = operands.third;
+    store_operand(table, i + 7, third);
+}
+
+// The line at place n.
+pub fn load_line(table: &[u64; TABLE_WORDS], n: usize) -> Line
+    requires { ⌜ (length (now table) ≡ tableWords) × (n < maxLines) ⌝ }
+    ensures { λ r. ⌜ r ≡ lineIn (now (table .entry)) n ⌝ }
+{
+    let i = n * LINE_WORDS;
+    let output = load_operand(table, i + 1);
+    let first = load_operand(table, i + 3);
+    let second = load_operand(table, i + 5);
+    let third = load_operand(table, i + 7);
+    Line {
+        output,
+        operator: numbered(table[i]),
+        operands: Operands {
+            first,
+            second,
+            third,
+        },
+    }
+}
