@@ -1,10 +1,10 @@
 -- A loop over the declarations of a `d` line, and what its stores leave in the tables. Assumes nothing.
-use mathlib.Core.Path.{_≡_, refl, sym, ap, ap₂, _∙_}
+use mathlib.Core.Path.{_≡_, sym, ap, ap₂, _∙_}
 use mathlib.Core.Bool.{true, false}
 use mathlib.Core.List.{List, [], _∷_, _++_}
 use Prim.Native.Nat.{ℕ, _+_, _-_, _≤_, _<_}
 use native.Mathlib.Omega.{arith}
-use lib.ListN.{length, getD, take, drop, set, length-set}
+use lib.ListN.{length, take, drop, set, length-set}
 use lib.Seq.{getD-set-same, getD-set-other, take-take}
 use Rattle.edition.specs.Edition.{maxVariables}
 use Rattle.refusal.specs.declared.Refusal.{Refusal}
@@ -13,7 +13,7 @@ use Rattle.refusal.specs.Numbers.{misplacedLine, tokenCount}
 use Rattle.refusal.specs.Result.{accepted, refused, refusal}
 use Rattle.text.specs.Lines.{Token, tokensFrom}
 use Rattle.text.proofs.RunLaws.{drop-take}
-use Rattle.constraint.specs.File.{Variable, File, withVariable, edition}
+use Rattle.constraint.specs.File.{File, edition}
 use Rattle.constraint.specs.Tables.{variableIn, variablesIn}
 use Rattle.constraint.specs.Read.{inHeader, declare, declareAll, readDeclarations}
 use Rattle.constraint.specs.Answers.{withVariables, lineAt}

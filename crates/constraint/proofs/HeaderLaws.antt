@@ -1,9 +1,9 @@
 -- The `v` and `e` lines, by what their tokens are. Assumes nothing.
-use mathlib.Core.Path.{_≡_, refl, sym, ap, _∙_}
+use mathlib.Core.Path.{_≡_, refl, ap}
 use mathlib.Core.Bool.{Bool, true, false, cond, not, _&&_}
 use mathlib.Core.List.{List, [], _∷_}
 use mathlib.Core.Option.{Option, none, some}
-use Prim.Native.Nat.{ℕ, _+_, _≤_, _<_, _^_}
+use Prim.Native.Nat.{ℕ, _+_, _≤_, _<_}
 use native.Mathlib.Omega.{arith}
 use lib.Dec.{eqb, ltb}
 use lib.ListN.{length, take, drop, length-drop}
@@ -14,7 +14,6 @@ use Rattle.refusal.specs.declared.Subject.the-variants.{Constraint}
 use Rattle.refusal.specs.Numbers.{misplacedLine, tokenCount}
 use Rattle.refusal.specs.Result.{accepted, refused, refusal, _>>_}
 use Rattle.operator.proofs.RuleLaws.{passed, failed}
-use Rattle.text.specs.declared.Number.{Number}
 use Rattle.text.specs.declared.Number.the-variants.{Value, TooBig, Misspelt}
 use Rattle.text.specs.Lines.{Token, tokensFrom, arguments, lineEnd}
 use Rattle.text.specs.Spelling.{decimal, isNumeral, numberBound}

@@ -11,7 +11,7 @@ use Rattle.edition.specs.Edition.{editionNumbered, maxVariables, maxLines, maxN
 use Rattle.refusal.specs.declared.Subject.the-variants.{Constraint}
 use Rattle.refusal.specs.Numbers.{overLimit, nameTaken, typeRuleBroken}
 use Rattle.refusal.specs.Lists.{isThere}
-use Rattle.refusal.specs.Result.{Result, accepted, refused, refusal, ensure, _>>=_, _>>_}
+use Rattle.refusal.specs.Result.{Result, accepted, refused, refusal, ensure, _>>_}
 use Rattle.operator.specs.declared.Operator.{Operator}
 use Rattle.text.specs.declared.Number.{Number}
 use Rattle.text.specs.declared.Number.the-variants.{Value, TooBig, Misspelt}

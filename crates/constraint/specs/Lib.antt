@@ -8,3 +8,4 @@ pub mod Tables
 pub mod Words
 pub mod Typing
 pub mod Answers
+pub mod Edges

@@ -1,7 +1,7 @@
 -- Reading a constraint file. Refusals are found from top to bottom.
 use Prim.Native.Nat.{ℕ, zero, suc, _%_, _^_}
 use Prim.Native.Char.{code}
-use mathlib.Core.Bool.{Bool, true, false, cond, not, _&&_}
+use mathlib.Core.Bool.{Bool, cond, not, _&&_}
 use mathlib.Core.List.{List, [], _∷_}
 use mathlib.Core.Option.{Option, none, some}
 use lib.Dec.{eqb, ltb, leb}

@@ -19,7 +19,7 @@ ghost use Rattle.text.specs.Lines.{tokensFrom};
 ghost use Rattle.constraint.specs.File.{File};
 ghost use Rattle.constraint.specs.Tables.{variablesIn};
 ghost use Rattle.constraint.specs.Read.{declareAll, readDeclarations};
-ghost use Rattle.constraint.specs.Answers.{declaredResult, DeclaredInTables, withVariablesRead, lineAt, held, fileHeld, stepResult, InTables, StepInTables, Whole};
+ghost use Rattle.constraint.specs.Answers.{declaredResult, DeclaredInTables, withVariablesRead, lineAt, held, fileHeld, stepResult, InTables, StepInTables};
 
 // The declarations of the line that stops at `stop`, from `at` on, put behind the n variables that are held.
 pub(crate) fn declare_all(

@@ -7,9 +7,8 @@ use operator::Word;
 use operator::rules::typed;
 ghost use mathlib.Core.Path.{_≡_};
 ghost use Prim.Native.Nat.{_≤_};
-ghost use lib.ListN.{length};
 ghost use Rattle.edition.specs.Edition.{maxVariables};
-ghost use Rattle.operator.specs.Rules.{operands, i1, is};
+ghost use Rattle.operator.specs.Rules.{operands};
 ghost use Rattle.constraint.specs.Types.{isConstant, constantRule, isPredicate, predicateRule};
 ghost use Rattle.constraint.specs.Typing.{widthIn, wordIn, targetWidthIn, wellTypedIn};
 

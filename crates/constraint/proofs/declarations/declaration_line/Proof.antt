@@ -3,13 +3,10 @@ use Rattle.refusal.specs.declared.Subject.the-variants.{Constraint}
 use Rattle.refusal.specs.Numbers.{tokenCount}
 use Rattle.refusal.specs.Result.{refused, refusal}
 use mathlib.Core.Path.{refl, sym, ap, _∙_}
-use mathlib.Core.Bool.{true}
-use native.Mathlib.Nat.{le-of-lt}
 use native.Mathlib.Omega.{arith}
-use lib.ListN.{length, take, drop}
+use lib.ListN.{take}
 use lib.Seq.{length-take-le}
 use borrow.Author.Tests.{eq-eqb, ne-eqb}
-use Rattle.text.specs.Lines.{tokensFrom}
 use Rattle.constraint.specs.Answers.{held, fileHeld}
 use Rattle.constraint.proofs.HeaderLaws.{in-header}
 use Rattle.constraint.proofs.DeclareLaws.{declarations-misplaced, declarations-missing, declarations-read}

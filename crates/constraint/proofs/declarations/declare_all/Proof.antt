@@ -1,5 +1,5 @@
 use mathlib.Core.Bool.{true}
-use mathlib.Core.Path.{_≡_, sym, ap, _∙_}
+use mathlib.Core.Path.{sym}
 use Prim.Native.Nat.{_-_, _≤_}
 use native.Mathlib.Omega.{arith}
 use lib.ListN.{length, take, drop}
@@ -8,7 +8,7 @@ use borrow.Author.Needs.{needs}
 use Rattle.text.specs.Lines.{tokensFrom}
 use Rattle.text.proofs.TokenLaws.{tokens-end}
 use Rattle.constraint.specs.File.{edition}
-use Rattle.constraint.specs.Answers.{tokenAt, declarationResult}
+use Rattle.constraint.specs.Answers.{tokenAt}
 use Rattle.constraint.proofs.DeclareLaws.{Declaring, declaring-starts, declaring-done, declaring-fault, declaring-more}
 use Rattle.constraint.proofs.declarations.declare_all.Statement.{statement}
 use Rattle.constraint.proofs.declarations.declare_all.Tie as tie

@@ -6,7 +6,6 @@ use lib.ListN.{take, drop}
 use lib.Seq.{length-take-le}
 use Rattle.refusal.specs.Lists.{isThere}
 use Rattle.refusal.specs.Numbers.{wrongExpectation}
-use Rattle.refusal.specs.Result.{refused}
 use Rattle.text.specs.Lines.{tokensFrom}
 use Rattle.constraint.specs.File.{withExpectation}
 use Rattle.constraint.specs.Read.{inHeader, expectationOf, readExpectation}

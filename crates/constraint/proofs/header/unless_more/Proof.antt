@@ -1,4 +1,3 @@
-use mathlib.Core.Path.{refl}
 use borrow.Author.Needs.{needs}
 use Rattle.constraint.proofs.header.unless_more.Statement.{statement}
 use Rattle.constraint.proofs.header.unless_more.Tie as tie

@@ -6,7 +6,6 @@ use lib.ListN.{take, drop}
 use lib.Seq.{length-take-le}
 use Rattle.refusal.specs.Lists.{isThere}
 use Rattle.refusal.specs.Numbers.{wrongVersion}
-use Rattle.refusal.specs.Result.{refused}
 use Rattle.text.specs.Lines.{tokensFrom}
 use Rattle.constraint.specs.File.{withVersion}
 use Rattle.constraint.specs.Read.{inHeader, versionOf, readVersion}

@@ -1,4 +1,3 @@
-use mathlib.Core.Path.{refl, sym}
 use native.Mathlib.Omega.{arith}
 use borrow.Author.Needs.{needs}
 use Rattle.constraint.proofs.reader.add_line.Statement.{statement}

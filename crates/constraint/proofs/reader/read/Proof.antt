@@ -1,4 +1,4 @@
-use mathlib.Core.Path.{ap, _∙_}
+use mathlib.Core.Path.{ap}
 use native.Mathlib.Omega.{arith}
 use Rattle.constraint.specs.Answers.{versionRead}
 use Rattle.constraint.proofs.ReaderLaws.{file-long, file-refused, file-unversioned, file-read}

@@ -1,12 +1,9 @@
-use mathlib.Core.Path.{_≡_, sym, _∙_}
-use mathlib.Core.Bool.{true, false}
+use mathlib.Core.Path.{sym, _∙_}
 use Prim.Native.Nat.{_≤_}
 use native.Mathlib.Omega.{arith}
-use lib.ListN.{length, take, drop}
+use lib.ListN.{length, take}
 use lib.Seq.{length-take-le}
-use Rattle.refusal.specs.Lists.{every}
-use Rattle.text.specs.declared.Class.the-variants.{Space, Allowed}
-use Rattle.text.specs.Bytes.{isSpace}
+use Rattle.text.specs.declared.Class.the-variants.{Allowed}
 use Rattle.text.specs.Scan.{isOf}
 use Rattle.text.proofs.RunLaws.{scan-bounds}
 use Rattle.text.proofs.LineLaws.{allowed-all, allowed-not, allowed-place}

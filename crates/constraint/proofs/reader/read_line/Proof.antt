@@ -1,6 +1,6 @@
 use mathlib.Core.Path.{refl, sym, ap, _∙_}
 use native.Mathlib.Omega.{arith}
-use lib.ListN.{length, take}
+use lib.ListN.{take}
 use lib.Seq.{length-take-le}
 use Rattle.constraint.specs.declared.Kind.the-variants.{Skipped, OfVersion, OfExpectation, OfDeclarations, OfConstraint, OfPredicate, OfNoKind}
 use Rattle.constraint.specs.Read.{addLine, readAs}

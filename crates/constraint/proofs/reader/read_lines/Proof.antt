@@ -1,4 +1,3 @@
-use mathlib.Core.Path.{_≡_, _∙_}
 use Prim.Native.Nat.{_-_}
 use native.Mathlib.Omega.{arith}
 use lib.ListN.{length}
@@ -6,7 +5,6 @@ use borrow.Author.Needs.{needs}
 use Rattle.text.specs.declared.Class.the-variants.{Until}
 use Rattle.text.specs.Scan.{isOf}
 use Rattle.text.proofs.RunLaws.{scan-bounds}
-use Rattle.constraint.specs.Answers.{held, fileHeld}
 use Rattle.constraint.proofs.ReaderLaws.{Reading, reading-starts, reading-ends, reading-stops, reading-goes}
 use Rattle.constraint.proofs.reader.read_lines.Statement.{statement}
 use Rattle.constraint.proofs.reader.read_lines.Tie as tie

@@ -1,4 +1,4 @@
-use borrow.Author.Tests.{eq-eqb, ne-eqb}
+use borrow.Author.Tests.{ne-eqb}
 use Rattle.constraint.specs.Tables.{operandOf}
 use borrow.Author.Needs.{needs}
 use Rattle.constraint.proofs.tables.operand.Statement.{statement}

@@ -1,10 +1,4 @@
-use mathlib.Core.Path.{_≡_, sym, ap, _∙_}
-use mathlib.Core.List.{List}
-use Prim.Native.Nat.{ℕ, _+_, _*_}
 use native.Mathlib.Omega.{arith}
-use lib.ListN.{set}
-use Rattle.constraint.specs.Tables.{lineWords, linesIn}
-use Rattle.constraint.specs.Words.{withOperand}
 use Rattle.constraint.proofs.TableLaws.{withLineAt, lines-more}
 use borrow.Author.Needs.{needs}
 use Rattle.constraint.proofs.tables.store_line.Statement.{statement}

@@ -1,5 +1,4 @@
 use lib.ListN.{length-set}
-use mathlib.Core.Path.{refl}
 use Rattle.constraint.specs.Words.{withOperand}
 use borrow.Author.Needs.{needs}
 use Rattle.constraint.proofs.tables.store_operand.Statement.{statement}
