@@ -17,7 +17,7 @@ use Rattle.text.specs.Spelling.{isName, isType, typeWidth, upTo, behind}
 use Rattle.text.proofs.NameLaws.{name-length}
 use Rattle.text.proofs.ReadingLaws.{yields-next}
 use Rattle.constraint.specs.File.{Variable, File, withVariable, edition, variableNamed}
-use Rattle.constraint.specs.Operators.{isReserved}
+use Rattle.spelling.specs.Operators.{isReserved}
 use Rattle.constraint.specs.Read.{inHeader, declare, declareAll, readDeclarations}
 use Rattle.constraint.specs.Claims.{SoundVariable, SoundLine, SoundFile}
 use Rattle.constraint.proofs.EachLaws.{each-last, each-none, distinct-last}

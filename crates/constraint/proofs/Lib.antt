@@ -7,7 +7,6 @@ pub mod VariableLaws
 pub mod DeclarationLaws
 pub mod OperationLaws
 pub mod SoundLaws
-pub mod SpellingLaws
 pub mod ConstantLaws
 pub mod LookupLaws
 pub mod NewNameLaws

@@ -25,7 +25,7 @@ use Rattle.text.proofs.TokenLaws.{up-to, behind-it}
 use Rattle.constraint.specs.declared.Declaration.{Declaration}
 use Rattle.constraint.specs.declared.Declaration.the-variants.{Fresh, Faulty}
 use Rattle.constraint.specs.File.{Variable, variableNamed}
-use Rattle.constraint.specs.Operators.{isReserved}
+use Rattle.spelling.specs.Operators.{isReserved}
 use Rattle.constraint.specs.Read.{at, declare}
 use Rattle.constraint.specs.Answers.{tokenAt, declarationResult, newName, Fits}
 

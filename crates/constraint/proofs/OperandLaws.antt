@@ -19,7 +19,7 @@ use Rattle.constraint.specs.declared.Operand.{Operand}
 use Rattle.constraint.specs.declared.Operand.the-variants.{Absent}
 use Rattle.constraint.specs.declared.Operands.{Operands}
 use Rattle.constraint.specs.File.{Variable, File, edition}
-use Rattle.constraint.specs.Operators.{operatorNamed}
+use Rattle.spelling.specs.Operators.{operatorNamed}
 use Rattle.constraint.specs.Read.{readOperand, nextOperand, noOperands, inFront, readOperands, readOperation, readConstraint, readPredicate}
 use Rattle.constraint.specs.Answers.{lineAt, finished}
 use Rattle.constraint.proofs.HeaderLaws.{arguments-at, end-at}

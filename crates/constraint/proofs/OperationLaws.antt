@@ -21,7 +21,7 @@ use Rattle.constraint.specs.declared.Operand.the-variants.{Absent, Var, 
 use Rattle.constraint.specs.declared.Operands.{Operands}
 use Rattle.constraint.specs.declared.Line.{Line}
 use Rattle.constraint.specs.File.{Variable, File, withLine, edition, variableNamed}
-use Rattle.constraint.specs.Operators.{operatorNamed}
+use Rattle.spelling.specs.Operators.{operatorNamed}
 use Rattle.constraint.specs.Types.{wellTyped}
 use Rattle.constraint.specs.Tables.{Storable, StorableLine}
 use Rattle.constraint.specs.Read.{readVariable, readConstant, readOperand, nextOperand, readOperands, readOperation, readConstraint, readPredicate}

@@ -17,7 +17,7 @@ use Rattle.constraint.specs.declared.Line.{Line}
 use Rattle.constraint.specs.declared.Kind.{Kind}
 use Rattle.constraint.specs.declared.Kind.the-variants.{Skipped, OfVersion, OfExpectation, OfDeclarations, OfConstraint, OfPredicate, OfNoKind}
 use Rattle.constraint.specs.File.{Variable, File, emptyFile, withVersion, withExpectation, withLine, edition}
-use Rattle.constraint.specs.Operators.{spellings}
+use Rattle.spelling.specs.Operators.{spellings}
 use Rattle.constraint.specs.Read.{inHeader, readSingle, versionOf, readVersion, expectationOf, readExpectation, addLine, kindOf, readAs, readLine, readFile}
 use Rattle.constraint.specs.Claims.{SoundVariable, SoundFile, AcceptedIsSound}
 use Rattle.constraint.proofs.EachLaws.{each-map}

@@ -12,7 +12,6 @@ use Rattle.refusal.specs.declared.Subject.the-variants.{Constraint}
 use Rattle.refusal.specs.Numbers.{overLimit, nameTaken, typeRuleBroken}
 use Rattle.refusal.specs.Lists.{isThere}
 use Rattle.refusal.specs.Result.{Result, accepted, refused, refusal, ensure, _>>_}
-use Rattle.operator.specs.declared.Operator.{Operator}
 use Rattle.text.specs.declared.Number.{Number}
 use Rattle.text.specs.declared.Number.the-variants.{Value, TooBig, Misspelt}
 use Rattle.text.specs.Reading.{noMoreTokens}
@@ -28,8 +27,6 @@ use Rattle.constraint.specs.declared.LineRead.{LineRead}
 use Rattle.constraint.specs.declared.LineRead.the-variants.{HasLine, NoLine}
 use Rattle.constraint.specs.declared.Found.{Found}
 use Rattle.constraint.specs.declared.Found.the-variants.{At, Nowhere}
-use Rattle.constraint.specs.declared.Spelt.{Spelt}
-use Rattle.constraint.specs.declared.Spelt.the-variants.{Is, Unknown}
 use Rattle.constraint.specs.declared.OperandRead.{OperandRead}
 use Rattle.constraint.specs.declared.OperandRead.the-variants.{Good, Bad}
 use Rattle.constraint.specs.declared.Declaration.{Declaration}
@@ -44,7 +41,7 @@ use Rattle.constraint.specs.declared.Progress.{Progress}
 use Rattle.constraint.specs.declared.Step.{Step}
 use Rattle.constraint.specs.declared.Step.the-variants.{Next, Stop}
 use Rattle.constraint.specs.File.{Variable, File, variableNamed}
-use Rattle.constraint.specs.Operators.{isReserved}
+use Rattle.spelling.specs.Operators.{isReserved}
 use Rattle.constraint.specs.Tables.{variablesIn, linesIn, tableWords, StorableLine}
 use Rattle.constraint.specs.Types.{wellTyped}
 use Rattle.constraint.specs.Read.{at}
@@ -59,15 +56,6 @@ tokenAt text start = record { start = start; bytes = drop start text }
 abbrev pub place : Found → Option ℕ
 place (At i) = some i
 place Nowhere = none
-
--- the operator of a spelling
-abbrev pub spelling : Spelt → Option Operator
-spelling (Is op) = some op
-spelling Unknown = none
-
-abbrev pub earlier : Spelt → Spelt → Spelt
-earlier (Is op) b = Is op
-earlier Unknown b = b
 
 -- the edition of two numbers as they were read
 abbrev pub editionBy : Number → Number → Option Edition

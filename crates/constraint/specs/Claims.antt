@@ -11,7 +11,7 @@ use Rattle.constraint.specs.declared.Operand.{Operand}
 use Rattle.constraint.specs.declared.Operand.the-variants.{Absent, Var, Const}
 use Rattle.constraint.specs.declared.Line.{Line}
 use Rattle.constraint.specs.File.{Variable, File, edition}
-use Rattle.constraint.specs.Operators.{isReserved}
+use Rattle.spelling.specs.Operators.{isReserved}
 use Rattle.constraint.specs.Types.{wellTyped}
 use Rattle.constraint.specs.Read.{readFile}
 

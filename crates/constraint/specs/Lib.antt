@@ -1,6 +1,5 @@
 pub mod File
 pub mod Types
-pub mod Operators
 pub mod Read
 pub mod Inspect
 pub mod Claims

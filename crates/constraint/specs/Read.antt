@@ -27,7 +27,7 @@ use Rattle.constraint.specs.declared.Kind.{Kind}
 use Rattle.constraint.specs.declared.Kind.the-variants.{Skipped, OfVersion, OfExpectation, OfDeclarations, OfConstraint, OfPredicate, OfNoKind}
 use Rattle.constraint.specs.File.{Variable, File, emptyFile, withVersion, withExpectation, withVariable, withLine, edition, variableNamed}
 use Rattle.constraint.specs.Types.{wellTyped}
-use Rattle.constraint.specs.Operators.{operatorNamed, isReserved}
+use Rattle.spelling.specs.Operators.{operatorNamed, isReserved}
 
 -- the refusal of a token, and of a line at its start
 abbrev pub at : Token → ℕ → Refusal

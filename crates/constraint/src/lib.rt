@@ -15,7 +15,6 @@ mod header;
 mod names;
 mod operations;
 pub mod reader;
-mod spellings;
 pub mod tables;
 mod typing;
 
@@ -44,11 +43,6 @@ pub struct Line {
 pub enum Found {
     At(usize),
     Nowhere,
-}
-
-pub enum Spelt {
-    Is(Operator),
-    Unknown,
 }
 
 // An operand, or the number of its token's refusal.

@@ -9,7 +9,7 @@ use Rattle.text.specs.Spelling.{isName, isNumeral, decimalFrom, leadingZero, is
 use Rattle.text.specs.Reading.{readAnyLine, readLines, readText}
 use Rattle.constraint.specs.File.{variableNamed, widthAt, word, target}
 use Rattle.constraint.specs.Types.{isConstant, constantRule, isPredicate, predicateRule, wellTyped}
-use Rattle.constraint.specs.Operators.{bitwise, predicates, arithmetic, shiftsAndCasts, spellings, spelt}
+use Rattle.spelling.specs.Operators.{bitwise, predicates, arithmetic, shiftsAndCasts, spellings, spelt}
 use Rattle.constraint.specs.Read.{inHeader, readSingle, versionOf, readVersion, declare, declareAll, readDeclarations, readVariable, readConstant, readOperand, nextOperand, readOperands, readOperation, readConstraint, readPredicate, kindOf, readAs, readLine, readFile}
 use Rattle.constraint.specs.Edges.{edges}
 use Rattle.constraint.proofs.claims.edges_hold.Statement.{statement}

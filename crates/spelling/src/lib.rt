@@ -1,5 +1,4 @@
 // The operators' spellings, by the sections of the format.
-use super::Spelt;
 use operator::Arithmetic;
 use operator::Bitwise;
 use operator::Comparison;
@@ -12,8 +11,14 @@ ghost use mathlib.Core.Path.{_≡_};
 ghost use Prim.Native.Nat.{_≤_};
 ghost use lib.ListN.{length, drop};
 ghost use Rattle.edition.specs.declared.Edition.{Edition};
-ghost use Rattle.constraint.specs.Operators.{bitwise as bitwiseList, predicates as predicateList, arithmetic as arithmeticList, shiftsAndCasts, spelt, operatorNamed, isReserved};
-ghost use Rattle.constraint.specs.Answers.{spelling, earlier};
+ghost use Rattle.spelling.specs.Operators.{bitwise as bitwiseList, predicates as predicateList, arithmetic as arithmeticList, shiftsAndCasts, spelt, operatorNamed, isReserved};
+ghost use Rattle.spelling.specs.Answers.{spelling, earlier};
+
+// The operator that a text spells.
+pub enum Spelt {
+    Is(Operator),
+    Unknown,
+}
 
 fn bitwise(text: &[u8], at: usize) -> Spelt
     requires { ⌜ at ≤ length (now text) ⌝ }

@@ -10,10 +10,10 @@ use Rattle.edition.specs.declared.Edition.{Edition}
 use Rattle.refusal.specs.Words.{ascii}
 use Rattle.operator.specs.declared.Operator.{Operator}
 use Rattle.text.specs.Bytes.{same}
-use Rattle.constraint.specs.declared.Spelt.{Spelt}
-use Rattle.constraint.specs.declared.Spelt.the-variants.{Is, Unknown}
-use Rattle.constraint.specs.Operators.{bitwise, predicates, arithmetic, shiftsAndCasts, spellings, spelt, operatorNamed}
-use Rattle.constraint.specs.Answers.{spelling, earlier}
+use Rattle.spelling.specs.declared.Spelt.{Spelt}
+use Rattle.spelling.specs.declared.Spelt.the-variants.{Is, Unknown}
+use Rattle.spelling.specs.Operators.{bitwise, predicates, arithmetic, shiftsAndCasts, spellings, spelt, operatorNamed}
+use Rattle.spelling.specs.Answers.{spelling, earlier}
 
 -- the bytes from `at` on are none of the spellings xs that stand in front of `rest`
 pub record Left (xs rest : List (String × Operator)) : Type 0 where

@@ -1,10 +1,10 @@
 -- `shifts_and_casts` meets its contract: one spelling after the other.
 use lib.ListN.{drop}
 use borrow.Author.Needs.{needs}
-use Rattle.constraint.specs.Operators.{shiftsAndCasts}
-use Rattle.constraint.proofs.SpellingLaws.{Left, untested, found, passed, unknown}
-use Rattle.constraint.proofs.spellings.shifts_and_casts.Statement.{statement}
-use Rattle.constraint.proofs.spellings.shifts_and_casts.Tie as tie
+use Rattle.spelling.specs.Operators.{shiftsAndCasts}
+use Rattle.spelling.proofs.SpellingLaws.{Left, untested, found, passed, unknown}
+use Rattle.spelling.proofs.shifts_and_casts.Statement.{statement}
+use Rattle.spelling.proofs.shifts_and_casts.Tie as tie
 
 -- after so many tests
 abbrev left-0 : tie.Start → Left shiftsAndCasts shiftsAndCasts

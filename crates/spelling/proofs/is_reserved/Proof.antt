@@ -1,7 +1,7 @@
 -- `is_reserved` meets its contract: whether there is an operator of that spelling.
 use borrow.Author.Needs.{needs}
-use Rattle.constraint.proofs.spellings.is_reserved.Statement.{statement}
-use Rattle.constraint.proofs.spellings.is_reserved.Tie as tie
+use Rattle.spelling.proofs.is_reserved.Statement.{statement}
+use Rattle.spelling.proofs.is_reserved.Tie as tie
 
 operator-at-requires : tie.Need-operator-at-requires
 operator-at-requires c κs = search needs

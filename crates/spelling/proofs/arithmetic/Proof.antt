@@ -1,10 +1,10 @@
 -- `arithmetic` meets its contract: one spelling after the other.
 use lib.ListN.{drop}
 use borrow.Author.Needs.{needs}
-use Rattle.constraint.specs.Operators.{arithmetic}
-use Rattle.constraint.proofs.SpellingLaws.{Left, untested, found, passed, unknown}
-use Rattle.constraint.proofs.spellings.arithmetic.Statement.{statement}
-use Rattle.constraint.proofs.spellings.arithmetic.Tie as tie
+use Rattle.spelling.specs.Operators.{arithmetic}
+use Rattle.spelling.proofs.SpellingLaws.{Left, untested, found, passed, unknown}
+use Rattle.spelling.proofs.arithmetic.Statement.{statement}
+use Rattle.spelling.proofs.arithmetic.Tie as tie
 
 -- after so many tests
 abbrev left-0 : tie.Start → Left arithmetic arithmetic

@@ -1,7 +1,7 @@
 -- `either` meets its contract: the first where it is there, else the second.
 use borrow.Author.Needs.{needs}
-use Rattle.constraint.proofs.spellings.either.Statement.{statement}
-use Rattle.constraint.proofs.spellings.either.Tie as tie
+use Rattle.spelling.proofs.either.Statement.{statement}
+use Rattle.spelling.proofs.either.Tie as tie
 
 enum-known-a : tie.Need-enum-known-a
 enum-known-a c = search needs

@@ -1,10 +1,10 @@
 -- `predicates` meets its contract: one spelling after the other.
 use lib.ListN.{drop}
 use borrow.Author.Needs.{needs}
-use Rattle.constraint.specs.Operators.{predicates}
-use Rattle.constraint.proofs.SpellingLaws.{Left, untested, found, passed, unknown}
-use Rattle.constraint.proofs.spellings.predicates.Statement.{statement}
-use Rattle.constraint.proofs.spellings.predicates.Tie as tie
+use Rattle.spelling.specs.Operators.{predicates}
+use Rattle.spelling.proofs.SpellingLaws.{Left, untested, found, passed, unknown}
+use Rattle.spelling.proofs.predicates.Statement.{statement}
+use Rattle.spelling.proofs.predicates.Tie as tie
 
 -- after so many tests
 abbrev left-0 : tie.Start → Left predicates predicates

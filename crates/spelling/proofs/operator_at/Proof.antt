@@ -1,8 +1,8 @@
 -- `operator_at` meets its contract: the first of the four groups that has the spelling.
 use borrow.Author.Needs.{needs}
-use Rattle.constraint.proofs.SpellingLaws.{operator-is}
-use Rattle.constraint.proofs.spellings.operator_at.Statement.{statement}
-use Rattle.constraint.proofs.spellings.operator_at.Tie as tie
+use Rattle.spelling.proofs.SpellingLaws.{operator-is}
+use Rattle.spelling.proofs.operator_at.Statement.{statement}
+use Rattle.spelling.proofs.operator_at.Tie as tie
 
 bitwise-requires : tie.Need-bitwise-requires
 bitwise-requires c κs = search needs

@@ -1,10 +1,10 @@
 -- `bitwise` meets its contract: one spelling after the other.
 use lib.ListN.{drop}
 use borrow.Author.Needs.{needs}
-use Rattle.constraint.specs.Operators.{bitwise}
-use Rattle.constraint.proofs.SpellingLaws.{Left, untested, found, passed, unknown}
-use Rattle.constraint.proofs.spellings.bitwise.Statement.{statement}
-use Rattle.constraint.proofs.spellings.bitwise.Tie as tie
+use Rattle.spelling.specs.Operators.{bitwise}
+use Rattle.spelling.proofs.SpellingLaws.{Left, untested, found, passed, unknown}
+use Rattle.spelling.proofs.bitwise.Statement.{statement}
+use Rattle.spelling.proofs.bitwise.Tie as tie
 
 -- after so many tests
 abbrev left-0 : tie.Start → Left bitwise bitwise
