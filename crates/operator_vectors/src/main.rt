@@ -7,57 +7,14 @@ ghost use Prim.Native.Nat.{_+_, _≤_};
 use libc::STDIN_FILENO;
 use libc::STDOUT_FILENO;
 use operator::Applied;
-use operator::Arithmetic;
-use operator::Bitwise;
-use operator::Comparison;
-use operator::Division;
-use operator::Extension;
-use operator::Operator;
-use operator::Shift;
 use operator::Word;
+use operator::numbering::numbered;
 
 // The bytes of a line, with its line end.
 const LINE: usize = 66;
 
 // The number of the last operator.
 const LAST: u64 = 30;
-
-// The operators are numbered from 0, in the order in which the scope document lists them.
-fn operator(number: u64) -> Operator {
-    match number {
-        0 => Operator::Combine(Bitwise::And),
-        1 => Operator::Combine(Bitwise::Or),
-        2 => Operator::Combine(Bitwise::Xor),
-        3 => Operator::Not,
-        4 => Operator::Implies,
-        5 => Operator::Compare(Comparison::Equal),
-        6 => Operator::Compare(Comparison::NotEqual),
-        7 => Operator::Compare(Comparison::Ule),
-        8 => Operator::Compare(Comparison::Uge),
-        9 => Operator::Compare(Comparison::Ult),
-        10 => Operator::Compare(Comparison::Ugt),
-        11 => Operator::Compare(Comparison::Sle),
-        12 => Operator::Compare(Comparison::Sge),
-        13 => Operator::Compare(Comparison::Slt),
-        14 => Operator::Compare(Comparison::Sgt),
-        15 => Operator::Ite,
-        16 => Operator::Compute(Arithmetic::Add),
-        17 => Operator::Compute(Arithmetic::Sub),
-        18 => Operator::Compute(Arithmetic::Mul),
-        19 => Operator::Divide(Division::Udiv),
-        20 => Operator::Divide(Division::Sdiv),
-        21 => Operator::Divide(Division::Urem),
-        22 => Operator::Divide(Division::Srem),
-        23 => Operator::Move(Shift::Shl),
-        24 => Operator::Move(Shift::Ashr),
-        25 => Operator::Move(Shift::Lshr),
-        26 => Operator::Trun,
-        27 => Operator::Extend(Extension::Sext),
-        28 => Operator::Extend(Extension::Zext),
-        29 => Operator::Conc,
-        _ => Operator::Extr,
-    }
-}
 
 // The operand that stands at `at`: two digits of its width, a colon, sixteen of its value.
 fn word(line: &[u8; LINE], at: usize) -> Word
@@ -97,7 +54,7 @@ fn run_vector() -> bool {
     let a = word(&line, 6);
     let b = word(&line, 26);
     let c = word(&line, 46);
-    print_answer(operator::apply(operator(number), width, a, b, c));
+    print_answer(operator::apply(numbered(number), width, a, b, c));
     true
 }
 
