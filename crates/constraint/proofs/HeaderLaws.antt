@@ -17,7 +17,7 @@ use Rattle.operator.proofs.RuleLaws.{passed, failed}
 use Rattle.text.specs.declared.Number.the-variants.{Value, TooBig, Misspelt}
 use Rattle.text.specs.Lines.{Token, tokensFrom, arguments, lineEnd}
 use Rattle.text.specs.Spelling.{decimal, isNumeral, numberBound}
-use Rattle.text.proofs.RunLaws.{and-false}
+use Rattle.refusal.proofs.BoolLaws.{and-false}
 use Rattle.text.proofs.TokenLaws.{up-to, behind-it}
 use Rattle.text.specs.Reading.{noMoreTokens}
 use Rattle.text.specs.declared.Class.the-variants.{Until}

@@ -1,6 +1,5 @@
 -- The type rule read off the table of widths is that of the variables. Assumes nothing.
 use mathlib.Core.Path.{_≡_, refl, sym, ap}
-use mathlib.Core.Bool.{Bool, true, false, _&&_}
 use mathlib.Core.List.{List, []}
 use Prim.Native.Nat.{ℕ, _≤_}
 use native.Mathlib.Decide.{decLt}
@@ -15,19 +14,6 @@ use Rattle.constraint.specs.Types.{declared, wellTyped}
 use Rattle.constraint.specs.Tables.{tabulate, variableIn, variablesIn}
 use Rattle.constraint.specs.Typing.{widthIn, wordIn, targetWidthIn, wellTypedIn}
 use Rattle.constraint.proofs.TableLaws.{length-tabulate, getD-tabulate}
-
--- ---- every one of a few tests
-pub one-passes : (x : Bool) → (x && true) ≡ x
-one-passes true = refl
-one-passes false = refl
-
-pub two-pass : (x y : Bool) → (x && (y && true)) ≡ (x && y)
-two-pass true y = one-passes y
-two-pass false y = refl
-
-pub three-pass : (x y z : Bool) → (x && (y && (z && true))) ≡ ((x && y) && z)
-three-pass true y z = two-pass y z
-three-pass false y z = refl
 
 -- ---- the widths of the variables in the tables
 abbrev nothing : Variable

@@ -10,6 +10,7 @@ use lib.Dec.{eqb, lit<}
 use lib.IntN.{_-ℤ_, _*ℤ_}
 use lib.Pow.{pow-add, pow-mono, pow-pos}
 use lib.Signed.{shrZ}
+use Rattle.refusal.proofs.ResultLaws.{never}
 use Rattle.operator.specs.declared.Operator.{Operator}
 use Rattle.operator.specs.declared.Operator.the-variants.{Combine, Not, Implies, Compare, Ite, Compute, Divide, Move, Trun, Extend, Conc, Extr}
 use Rattle.operator.specs.declared.Bitwise.the-variants.{Or}
@@ -91,23 +92,20 @@ within Extr k a b c g z =
     let x = a .value / 2 ^ b .value in
     (x % 2 ^ (c .value - b .value), refl, rw (g .span) (mod-lt x (pow-pos (c .value - b .value))))
 
-never : {A : Type 0} → false ≡ true → A
-never e = let z : _≡_ {A = ℕ} 0 1 = cc e in let w : ⊥ = omega arith in absurd w
-
 missing : (op : Operator) (k : ℕ) (a b c : Word) → zeroDivisor op b ≡ true → value op k a b c ≡ none
 unfolding zeroDivisor value
-missing (Combine o) k a b c z = never z
-missing Not k a b c z = never z
-missing Implies k a b c z = never z
-missing (Compare o) k a b c z = never z
-missing Ite k a b c z = never z
-missing (Compute o) k a b c z = never z
+missing (Combine o) k a b c z = never (cc z)
+missing Not k a b c z = never (cc z)
+missing Implies k a b c z = never (cc z)
+missing (Compare o) k a b c z = never (cc z)
+missing Ite k a b c z = never (cc z)
+missing (Compute o) k a b c z = never (cc z)
 missing (Divide o) k a b c z = rw z
-missing (Move o) k a b c z = never z
-missing Trun k a b c z = never z
-missing (Extend o) k a b c z = never z
-missing Conc k a b c z = never z
-missing Extr k a b c z = never z
+missing (Move o) k a b c z = never (cc z)
+missing Trun k a b c z = never (cc z)
+missing (Extend o) k a b c z = never (cc z)
+missing Conc k a b c z = never (cc z)
+missing Extr k a b c z = never (cc z)
 
 -- where the widths and the rule hold, the meaning is the value
 pub meaning-is : (op : Operator) (k : ℕ) (a b c : Word) → widthsHold op k a b c ≡ true → typed op k a b c ≡ true → meaning op k a b c ≡ value op k a b c

@@ -1,5 +1,5 @@
 -- What the tests of the type rules say as plain facts, and how programs compute them. Assumes nothing.
-use mathlib.Core.Path.{_≡_, refl, sym, _∙_, subst}
+use mathlib.Core.Path.{_≡_, sym, _∙_, subst}
 use mathlib.Core.Bool.{Bool, true, false, not, _&&_, _||_}
 use mathlib.Core.List.{List, [], _∷_}
 use Prim.Native.Nat.{ℕ, _+_, _-_, _/_, _^_, _≤_, _<_}
@@ -11,16 +11,12 @@ use lib.Pow.{pow-mono, pow-pos}
 use borrow.Author.Tests.{eqb-true, leb-true, ltb-true, eq-eqb, ne-eqb, lt-ltb, le-ltb, not-true, not-false}
 use Rattle.edition.specs.Edition.{maxWidth, isWidth}
 use Rattle.refusal.specs.Lists.{every}
+use Rattle.refusal.proofs.BoolLaws.{and-true, and-one, and-two, and-three}
 use Rattle.operator.specs.declared.Operator.{Operator}
 use Rattle.operator.specs.declared.Operator.the-variants.{Combine, Not, Implies, Compare, Ite, Compute, Divide, Move, Trun, Extend, Conc, Extr}
 use Rattle.operator.specs.declared.Word.{Word}
 use Rattle.operator.specs.Rules.{arity, operands, widthsHold, fits, valuesFit, is, joins, cuts, typed, i1, i8}
 use Rattle.operator.specs.Given.{Width, Operands, Given}
-
--- both of two tests
-both : (x y : Bool) → (x && y) ≡ true → (x ≡ true) × (y ≡ true)
-both true y e = (refl, e)
-both false y e = let z : _≡_ {A = ℕ} 0 1 = cc e in let w : ⊥ = omega arith in absurd w
 
 -- each of a list's tests
 abbrev Each : {A : Type 0} → (A → Bool) → List A → Type 0
@@ -30,12 +26,12 @@ Each test (x ∷ xs) = (test x ≡ true) × Each test xs
 each : {A : Type 0} (test : A → Bool) (xs : List A) → every test xs ≡ true → Each test xs
 unfolding every
 each test [] e = tt
-each test (x ∷ xs) e = let p = both (test x) (every test xs) e in (p .0, each test xs (p .1))
+each test (x ∷ xs) e = let p = and-true (test x) (every test xs) e in (p .0, each test xs (p .1))
 
 -- a width's test, and a value's
 pub width-is : (k : ℕ) → isWidth k ≡ true → Width k
 unfolding isWidth
-width-is k e = let p = both (leb 1 k) (leb k maxWidth) e in record { least = leb-true 1 k (p .0); most = leb-true k maxWidth (p .1) }
+width-is k e = let p = and-true (leb 1 k) (leb k maxWidth) e in record { least = leb-true 1 k (p .0); most = leb-true k maxWidth (p .1) }
 
 fits-is : (w : Word) → fits w ≡ true → w .value < 2 ^ w .width
 unfolding fits
@@ -63,42 +59,42 @@ abbrev hasWidth : Word → Bool
 hasWidth w = isWidth (w .width)
 
 result-width : (k : ℕ) (ws : List Word) → (isWidth k && every hasWidth ws) ≡ true → Width k
-result-width k ws e = width-is k (both (isWidth k) (every hasWidth ws) e .0)
+result-width k ws e = width-is k (and-true (isWidth k) (every hasWidth ws) e .0)
 
 operand-widths : (k : ℕ) (ws : List Word) → (isWidth k && every hasWidth ws) ≡ true → Each hasWidth ws
-operand-widths k ws e = each hasWidth ws (both (isWidth k) (every hasWidth ws) e .1)
+operand-widths k ws e = each hasWidth ws (and-true (isWidth k) (every hasWidth ws) e .1)
 
 -- operands that pass the three tests keep the rule
 pub given : (op : Operator) (k : ℕ) (a b c : Word) → widthsHold op k a b c ≡ true → typed op k a b c ≡ true → valuesFit op a b c ≡ true → Given op k a b c
 unfolding widthsHold typed valuesFit arity joins cuts
-given (Combine o) k a b c w t v = alike k a b (result-width k (a ∷ b ∷ []) w) (both (is k a) (is k b) t) (each fits (a ∷ b ∷ []) v)
+given (Combine o) k a b c w t v = alike k a b (result-width k (a ∷ b ∷ []) w) (and-true (is k a) (is k b) t) (each fits (a ∷ b ∷ []) v)
 given Not k a b c w t v =
     let r = result-width k (a ∷ []) w in
     record { least = r .least; most = r .most; fits = fits-at k a t (each fits (a ∷ []) v .0) }
 given Implies k a b c w t v =
-    let p = both (eqb k i1 && is i1 a) (is i1 b) t in
-    let q = both (eqb k i1) (is i1 a) (p .0) in
+    let p = and-true (eqb k i1 && is i1 a) (is i1 b) t in
+    let q = and-true (eqb k i1) (is i1 a) (p .0) in
     subst (λ (n : ℕ). Operands n (a .value) (b .value)) (sym (eqb-true k i1 (q .0))) (alike i1 a b width-one (q .1, p .1) (each fits (a ∷ b ∷ []) v))
 given (Compare o) k a b c w t v =
-    let p = both (eqb k i1) (is (b .width) a) t in
+    let p = and-true (eqb k i1) (is (b .width) a) t in
     (eqb-true k i1 (p .0), matched a b (width-is (a .width) (operand-widths k (a ∷ b ∷ []) w .0)) (p .1) (each fits (a ∷ b ∷ []) v))
 given Ite k a b c w t v =
-    let p = both (is i1 a && is k b) (is k c) t in
-    let q = both (is i1 a) (is k b) (p .0) in
+    let p = and-true (is i1 a && is k b) (is k c) t in
+    let q = and-true (is i1 a) (is k b) (p .0) in
     let f = each fits (a ∷ b ∷ c ∷ []) v in
     record { test = fits-at i1 a (q .0) (f .0); fits = fits-at k b (q .1) (f .1 .0); fits₂ = fits-at k c (p .1) (f .1 .1 .0) }
-given (Compute o) k a b c w t v = alike k a b (result-width k (a ∷ b ∷ []) w) (both (is k a) (is k b) t) (each fits (a ∷ b ∷ []) v)
-given (Divide o) k a b c w t v = alike k a b (result-width k (a ∷ b ∷ []) w) (both (is k a) (is k b) t) (each fits (a ∷ b ∷ []) v)
+given (Compute o) k a b c w t v = alike k a b (result-width k (a ∷ b ∷ []) w) (and-true (is k a) (is k b) t) (each fits (a ∷ b ∷ []) v)
+given (Divide o) k a b c w t v = alike k a b (result-width k (a ∷ b ∷ []) w) (and-true (is k a) (is k b) t) (each fits (a ∷ b ∷ []) v)
 given (Move o) k a b c w t v =
     let r = result-width k (a ∷ b ∷ []) w in
-    let p = both (is k a) (is i8 b) t in
+    let p = and-true (is k a) (is i8 b) t in
     record { least = r .least; most = r .most; fits = fits-at k a (p .0) (each fits (a ∷ b ∷ []) v .0) }
 given Trun k a b c w t v = result-width k (a ∷ []) w
 given (Extend o) k a b c w t v =
     let x = width-is (a .width) (operand-widths k (a ∷ []) w .0) in
     record { least = x .least; wider = ltb-true (a .width) k t; most = result-width k (a ∷ []) w .most; fits = fits-is a (each fits (a ∷ []) v .0) }
 given Conc k a b c w t v =
-    let p = both (eqb k (a .width + b .width)) (leb k maxWidth) t in
+    let p = and-true (eqb k (a .width + b .width)) (leb k maxWidth) t in
     let x = operand-widths k (a ∷ b ∷ []) w in
     let f = each fits (a ∷ b ∷ []) v in
     record {
@@ -110,9 +106,9 @@ given Conc k a b c w t v =
       fits₂ = fits-is b (f .1 .0);
     }
 given Extr k a b c w t v =
-    let p = both (is i8 b && is i8 c) (cuts k (a .width) (b .value) (c .value)) t in
-    let q = both (ltb (b .value) (c .value) && leb (c .value) (a .width)) (eqb k (c .value - b .value)) (p .1) in
-    let r = both (ltb (b .value) (c .value)) (leb (c .value) (a .width)) (q .0) in
+    let p = and-true (is i8 b && is i8 c) (cuts k (a .width) (b .value) (c .value)) t in
+    let q = and-true (ltb (b .value) (c .value) && leb (c .value) (a .width)) (eqb k (c .value - b .value)) (p .1) in
+    let r = and-true (ltb (b .value) (c .value)) (leb (c .value) (a .width)) (q .0) in
     let x = width-is (a .width) (operand-widths k (a ∷ b ∷ c ∷ []) w .0) in
     let m : c .value ≤ a .width = leb-true (c .value) (a .width) (r .1) in
     record {
@@ -131,19 +127,10 @@ pub failed : {r t : Bool} → r ≡ t → not r ≡ true → t ≡ false
 failed {r} e h = sym e ∙ not-true r h
 
 one-taken : (x : Bool) → (x && true) ≡ ((x && true) && true)
-one-taken true = refl
-one-taken false = refl
+one-taken x = sym (and-one (x && true))
 
 two-taken : (x y : Bool) → (x && (y && true)) ≡ ((x && y) && true)
-two-taken true true = refl
-two-taken true false = refl
-two-taken false y = refl
-
-three-taken : (x y z : Bool) → (x && (y && (z && true))) ≡ ((x && y) && z)
-three-taken true true true = refl
-three-taken true true false = refl
-three-taken true false z = refl
-three-taken false y z = refl
+two-taken x y = and-two x y ∙ sym (and-one (x && y))
 
 -- a test of the operands that an operator takes
 pub taken-is : (op : Operator) (test : Word → Bool) (a b c : Word) → every test (operands op a b c) ≡ (test a && (ltb (arity op) 2 || test b) && (ltb (arity op) 3 || test c))
@@ -152,14 +139,14 @@ taken-is (Combine o) test a b c = two-taken (test a) (test b)
 taken-is Not test a b c = one-taken (test a)
 taken-is Implies test a b c = two-taken (test a) (test b)
 taken-is (Compare o) test a b c = two-taken (test a) (test b)
-taken-is Ite test a b c = three-taken (test a) (test b) (test c)
+taken-is Ite test a b c = and-three (test a) (test b) (test c)
 taken-is (Compute o) test a b c = two-taken (test a) (test b)
 taken-is (Divide o) test a b c = two-taken (test a) (test b)
 taken-is (Move o) test a b c = two-taken (test a) (test b)
 taken-is Trun test a b c = one-taken (test a)
 taken-is (Extend o) test a b c = one-taken (test a)
 taken-is Conc test a b c = two-taken (test a) (test b)
-taken-is Extr test a b c = three-taken (test a) (test b) (test c)
+taken-is Extr test a b c = and-three (test a) (test b) (test c)
 
 -- a value fits where a shift by its width leaves nothing, and in any width of 64 or more
 pub fits-shr : (v k : ℕ) → eqb (v / 2 ^ k) 0 ≡ ltb v (2 ^ k)

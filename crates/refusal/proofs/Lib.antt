@@ -1,3 +1,4 @@
 -- Laws that belong to no one function.
 pub mod ResultLaws
 pub mod ListLaws
+pub mod BoolLaws

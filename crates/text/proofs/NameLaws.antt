@@ -14,7 +14,7 @@ use Rattle.refusal.specs.Lists.{every}
 use Rattle.refusal.proofs.ResultLaws.{never}
 use Rattle.text.specs.Bytes.{same, isLetter, isNameByte}
 use Rattle.text.specs.Spelling.{isName}
-use Rattle.text.proofs.RunLaws.{and-false}
+use Rattle.refusal.proofs.BoolLaws.{and-false}
 
 -- a name at a place of f
 module _ (f : List ℕ) (at : ℕ) where

@@ -19,7 +19,8 @@ use Rattle.text.specs.declared.Number.the-variants.{Value, TooBig, Missp
 use Rattle.text.specs.declared.TypeRead.{TypeRead}
 use Rattle.text.specs.declared.TypeRead.the-variants.{Width, NoWidth, NoType}
 use Rattle.text.specs.Scan.{numberOf, typeOf}
-use Rattle.text.proofs.RunLaws.{and-true, and-false, every-head}
+use Rattle.refusal.proofs.BoolLaws.{and-true, and-false}
+use Rattle.text.proofs.RunLaws.{every-head}
 
 -- the number that digits make, from one to the next
 module _ (f : List ℕ) (i n : ℕ) where

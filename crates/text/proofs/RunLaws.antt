@@ -11,17 +11,9 @@ use lib.ListN.{length, getD, take, drop, length-take, length-drop, drop-of-lengt
 use lib.Seq.{getD-drop, drop-cons, drop-at, take-add, length-take-le}
 use borrow.Author.Tests.{eq-eqb, ne-eqb}
 use Rattle.refusal.specs.Lists.{every}
+use Rattle.refusal.proofs.BoolLaws.{and-true}
 use Rattle.text.specs.Bytes.{run}
 use Rattle.text.specs.Scan.{past}
-
--- both parts of a conjunction
-pub and-true : (a b : Bool) → (a && b) ≡ true → (a ≡ true) × (b ≡ true)
-and-true true b e = (refl, e)
-and-true false b e = let z : _≡_ {A = ℕ} 0 1 = cc e in let w : ⊥ = omega arith in absurd w
-
-pub and-false : (a : Bool) → (a && false) ≡ false
-and-false true = refl
-and-false false = refl
 
 -- a part of a text, counted from its start and from the text's
 pub drop-take : (n m : ℕ) (f : List ℕ) → n ≤ length f → drop n (take (n + m) f) ≡ take m (drop n f)

@@ -1,7 +1,6 @@
-use Rattle.text.proofs.RunLaws.{and-false}
+use Rattle.refusal.proofs.BoolLaws.{and-one, and-false}
 use lib.Dec.{eqb}
 use mathlib.Core.Path.{sym}
-use Rattle.constraint.proofs.TypingLaws.{one-passes}
 use borrow.Author.Needs.{needs}
 use Rattle.constraint.proofs.header.awaits_expectation.Statement.{statement}
 use Rattle.constraint.proofs.header.awaits_expectation.Tie as tie
@@ -13,7 +12,7 @@ enum-told-2 : tie.Need-enum-told-2
 enum-told-2 c = search needs
 
 returns : tie.Need-returns
-returns c = rw (c .before .enum-told .given .1) (sym (one-passes (eqb (c .before .before .before .args .p .lines) 0)))
+returns c = rw (c .before .enum-told .given .1) (sym (and-one (eqb (c .before .before .before .args .p .lines) 0)))
 
 returns-2 : tie.Need-returns-2
 returns-2 c = rw (c .enum-told2 .given .1) (sym (and-false (eqb (c .before .before .args .p .lines) 0)))

@@ -3,7 +3,7 @@ use lib.Dec.{eqb}
 use Rattle.refusal.specs.Lists.{every}
 use Rattle.operator.specs.Rules.{arity}
 use Rattle.constraint.specs.Types.{isPredicate}
-use Rattle.constraint.proofs.TypingLaws.{one-passes, two-pass, three-pass}
+use Rattle.refusal.proofs.BoolLaws.{and-one, and-two, and-three}
 use borrow.Author.Needs.{needs}
 use Rattle.constraint.proofs.typing.is_predicate.Statement.{statement}
 use Rattle.constraint.proofs.typing.is_predicate.Tie as tie
@@ -46,11 +46,11 @@ enum-told-12 c = search needs
 
 returns : tie.Need-returns
 unfolding isPredicate arity every
-returns c = rw (c .enum-told .given .1) (sym (two-pass (eqb (c .before .before .before .before .before .args .a .width) 1) (eqb (c .before .before .before .before .before .args .b .width) 1)))
+returns c = rw (c .enum-told .given .1) (sym (and-two (eqb (c .before .before .before .before .before .args .a .width) 1) (eqb (c .before .before .before .before .before .args .b .width) 1)))
 
 returns-2 : tie.Need-returns-2
 unfolding isPredicate arity every
-returns-2 c = rw (c .enum-told2 .given .1) (sym (one-passes (eqb (c .before .before .before .before .before .args .a .width) 1)))
+returns-2 c = rw (c .enum-told2 .given .1) (sym (and-one (eqb (c .before .before .before .before .before .args .a .width) 1)))
 
 returns-3 : tie.Need-returns-3
 unfolding isPredicate arity every
@@ -62,7 +62,7 @@ returns-4 c = rw (c .enum-told4 .given .1)
 
 returns-5 : tie.Need-returns-5
 unfolding isPredicate arity every
-returns-5 c = rw (c .enum-told5 .given .1) (sym (three-pass (eqb (c .before .before .before .before .before .args .a .width) 1) (eqb (c .before .before .before .before .before .args .b .width) 1) (eqb (c .before .before .before .before .before .args .c .width) 1)))
+returns-5 c = rw (c .enum-told5 .given .1) (sym (and-three (eqb (c .before .before .before .before .before .args .a .width) 1) (eqb (c .before .before .before .before .before .args .b .width) 1) (eqb (c .before .before .before .before .before .args .c .width) 1)))
 
 returns-6 : tie.Need-returns-6
 unfolding isPredicate arity every

@@ -1,0 +1,26 @@
+-- Tests that are joined by `&&`. Assumes nothing.
+use mathlib.Core.Path.{_≡_, refl}
+use mathlib.Core.Bool.{Bool, true, false, _&&_}
+use Rattle.refusal.proofs.ResultLaws.{never}
+
+-- both of two tests pass
+pub and-true : (x y : Bool) → (x && y) ≡ true → (x ≡ true) × (y ≡ true)
+and-true true y e = (refl, e)
+and-true false y e = never (cc e)
+
+pub and-false : (x : Bool) → (x && false) ≡ false
+and-false true = refl
+and-false false = refl
+
+-- one, two and three tests, as a list of tests joins them
+pub and-one : (x : Bool) → (x && true) ≡ x
+and-one true = refl
+and-one false = refl
+
+pub and-two : (x y : Bool) → (x && (y && true)) ≡ (x && y)
+and-two true y = and-one y
+and-two false y = refl
+
+pub and-three : (x y z : Bool) → (x && (y && (z && true))) ≡ ((x && y) && z)
+and-three true y z = and-two y z
+and-three false y z = refl
