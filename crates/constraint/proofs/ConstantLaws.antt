@@ -9,9 +9,6 @@ use lib.ListN.{length, take, drop}
 use Rattle.edition.specs.Edition.{isWidth}
 use Rattle.refusal.specs.Numbers.{misspelt, notAWidth, numberTooLarge}
 use Rattle.refusal.specs.Result.{accepted, ensure, _>>_}
-use Rattle.refusal.proofs.ResultLaws.{never}
-use Rattle.operator.specs.Given.{Width as GivenWidth}
-use Rattle.operator.proofs.RuleLaws.{width-is}
 use Rattle.text.specs.Lines.{Token}
 use Rattle.text.specs.Spelling.{isNumeral, decimal, maxDigits, numberBound, isType, typeWidth, upTo, behind}
 use Rattle.text.specs.declared.Class.the-variants.{Until}
@@ -26,16 +23,6 @@ use Rattle.constraint.specs.declared.OperandRead.{OperandRead}
 use Rattle.constraint.specs.declared.OperandRead.the-variants.{Good, Bad}
 use Rattle.constraint.specs.Read.{at, readConstant}
 use Rattle.constraint.specs.Answers.{tokenAt, operandResult}
-
--- the width of a type that is read is one
-pub width-read : (s : List ℕ) (k : ℕ) → typeOf s ≡ Width k → GivenWidth k
-unfolding typeOf
-width-read s k e = width-is k (go (isType s) (isWidth (typeWidth s)) refl e)
-  where
-    go : (type width : Bool) → isWidth (typeWidth s) ≡ width → cond type (cond width (Width (typeWidth s)) NoWidth) NoType ≡ Width k → isWidth k ≡ true
-    go true true w q = cc
-    go true false w q = never (cc q)
-    go false width w q = never (cc q)
 
 -- a constant by its number and its type
 abbrev pub constantOf : Number → TypeRead → OperandRead

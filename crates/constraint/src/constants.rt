@@ -2,7 +2,7 @@
 use super::Operand;
 use super::OperandRead;
 use operator::Word;
-use operator::widths::low;
+use operator::rules::reduced;
 use refusal::Refusal;
 use text::Class;
 use text::Number;
@@ -39,7 +39,7 @@ pub fn constant(text: &[u8], at: usize) -> OperandRead
             TypeRead::NoWidth => OperandRead::Bad(Refusal::NOT_A_WIDTH),
             TypeRead::Width(k) => OperandRead::Good(Operand::Const(Word {
                 width: k,
-                value: low(k, v),
+                value: reduced(k, v),
             })),
         },
     }

@@ -1,11 +1,11 @@
 -- Laws of 2 ^ k and of remainders by it. Assumes nothing.
 use mathlib.Core.Path.{_≡_, sym, ap, ap₂, _∙_}
 use Prim.Native.Nat.{ℕ, suc, _+_, _-_, _*_, _/_, _%_, _^_, _≤_, _<_}
-use native.Mathlib.Nat.{add-mul-mod-self-right, div-eq-of-lt, le-of-lt, lt-of-le-of-lt, lt-of-lt-of-le, mul-assoc, mul-le-mul-left, mul-lt-mul-of-pos-right, mul-mod-left, pow-suc}
+use native.Mathlib.Nat.{add-mul-mod-self-right, div-eq-of-lt, le-of-lt, lt-of-le-of-lt, lt-of-lt-of-le, mod-eq-of-lt, mul-assoc, mul-le-mul-left, mul-lt-mul-of-pos-right, mul-mod-left, one-mul, pow-suc}
 use native.Mathlib.Omega.{arith}
 use lib.Arith.{digits-mod}
 use lib.Bits.{bitAnd, and-mask}
-use lib.Pow.{high, mod-mod-pow, ones-lt, ones-split, pow-add, pow-mono, pow-pos, split, suc-ones}
+use lib.Pow.{high, mod-mod-pow, ones-lt, ones-split, pow-add, pow-lt, pow-mono, pow-pos, split, suc-ones}
 use mir.Syntax.{w64}
 use mir.Val.{Fits}
 
@@ -22,6 +22,10 @@ mod-at q {n} {m} {r} e h = ap (λ (x : ℕ). x % m) e ∙ digits-mod q h
 -- numbers that are equal but for multiples of n have the same remainder
 pub mod-cong : (n p q x y : ℕ) → x + p * n ≡ y + q * n → x % n ≡ y % n
 mod-cong n p q x y e = sym (add-mul-mod-self-right x p n) ∙ ap (λ (z : ℕ). z % n) e ∙ add-mul-mod-self-right y q n
+
+-- one bit, shifted left within a word
+pub one-shl : (n : ℕ) → n < 64 → 1 * 2 ^ n % 2 ^ 64 ≡ 2 ^ n
+one-shl n h = rw (one-mul (2 ^ n)) (mod-eq-of-lt (pow-lt h))
 
 -- all ones, shifted right: (2 ^ 64 - 1) >> (64 - k) is 2 ^ k - 1
 pub ones-shr : (k : ℕ) → k ≤ 64 → (2 ^ 64 - 1) / 2 ^ (64 - k) ≡ 2 ^ k - 1

@@ -19,7 +19,7 @@ mod quotients;
 pub mod rules;
 mod shifts;
 mod sums;
-pub mod widths;
+mod widths;
 
 // The 31 operators, by kind; operators of one kind share their type rule.
 pub enum Operator {

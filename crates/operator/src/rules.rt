@@ -5,6 +5,7 @@ use super::widths::WORD_BITS;
 use edition::Edition;
 ghost use mathlib.Core.Path.{_≡_};
 ghost use mathlib.Core.Bool.{_&&_, _||_};
+ghost use Prim.Native.Nat.{_%_, _^_};
 ghost use lib.Dec.{ltb};
 ghost use Rattle.operator.specs.Rules.{arity as arityOf, widthsHold, fits as fitsIn, valuesFit, joins as joinsIn, cuts as cutsIn, typed as typedBy};
 
@@ -59,6 +60,13 @@ pub fn fits(w: Word) -> bool
     } else {
         true
     }
+}
+
+// x modulo 2^k.
+pub fn reduced(k: u64, x: u64) -> u64
+    ensures { λ r. ⌜ r ≡ x % 2 ^ k ⌝ }
+{
+    if k < WORD_BITS { x % (1 << k) } else { x }
 }
 
 // Whether the operands that the operator takes fit their widths.

@@ -23,7 +23,7 @@ pub(crate) fn top(k: u64) -> u64
 }
 
 // The low k bits of x.
-pub fn low(k: u64, x: u64) -> u64
+pub(crate) fn low(k: u64, x: u64) -> u64
     requires { ⌜ Width k ⌝ }
     ensures { λ r. ⌜ r ≡ x % 2 ^ k ⌝ }
 {

@@ -13,7 +13,7 @@ use Rattle.text.specs.declared.TypeRead.the-variants.{Width, NoWidth, NoType}
 use Rattle.text.proofs.TokenLaws.{find-bounds}
 use Rattle.constraint.specs.Read.{readConstant}
 use Rattle.constraint.specs.Answers.{tokenAt, operandResult}
-use Rattle.constraint.proofs.ConstantLaws.{constantOf, constant-read, width-read}
+use Rattle.constraint.proofs.ConstantLaws.{constantOf, constant-read}
 use Rattle.constraint.proofs.constants.constant.Statement.{statement}
 use Rattle.constraint.proofs.constants.constant.Tie as tie
 
@@ -69,8 +69,8 @@ enum-told-7 c = search needs
 enum-known-kind : tie.Need-enum-known-kind
 enum-known-kind c = search needs
 
-low-requires : tie.Need-low-requires
-low-requires c κs = width-read _ _ (sym (c .before .before .before .before .before .before .type-behind .ensures) ∙ c .before .kind .given .1)
+reduced-requires : tie.Need-reduced-requires
+reduced-requires c κs = search needs
 
 returns : tie.Need-returns
 returns c = read (c .before .before) Misspelt _ (c .enum-told .given .1) refl
@@ -93,7 +93,7 @@ returns-6 c = read (c .before .before .before .before .before) (Value _) NoWidth
 returns-7 : tie.Need-returns-7
 returns-7 c =
     let m = c .before .before in
-    rw (c .low .ensures) (read (m .before .before .before .before .before) (Value _) (Width _) (m .before .before .before .number .given .1) (m .kind .given .1))
+    rw (c .reduced .ensures) (read (m .before .before .before .before .before) (Value _) (Width _) (m .before .before .before .number .given .1) (m .kind .given .1))
 
 pub constant-spec : {M : Type 1} → statement M
 constant-spec =
@@ -112,7 +112,7 @@ constant-spec =
     enum-told-6
     enum-told-7
     enum-known-kind
-    low-requires
+    reduced-requires
     returns
     returns-2
     returns-3

@@ -1,7 +1,6 @@
-use Prim.Native.Nat.{_-_, _^_, _<_}
-use native.Mathlib.Nat.{mod-eq-of-lt, one-mul}
+use Prim.Native.Nat.{_-_}
 use native.Mathlib.Omega.{arith}
-use lib.Pow.{pow-lt}
+use Rattle.operator.proofs.Powers.{one-shl}
 use borrow.Author.Needs.{needs}
 use Rattle.operator.proofs.widths.top.Statement.{statement}
 use Rattle.operator.proofs.widths.top.Tie as tie
@@ -13,9 +12,7 @@ shl-result : tie.Need-shl-result
 shl-result c = search needs
 
 returns : tie.Need-returns
-returns c =
-    let l : c .args .k - 1 < 64 = omega arith in
-    rw (one-mul (2 ^ (c .args .k - 1))) (mod-eq-of-lt (pow-lt l))
+returns c = one-shl (c .args .k - 1) (omega arith)
 
 pub top-spec : {M : Type 1} → statement M
 top-spec = tie.close (tie.spec sub-result shl-result returns)
