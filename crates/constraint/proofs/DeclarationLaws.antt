@@ -38,6 +38,7 @@ declare-keeps f t empty h =
       few-variables = rw length-append (omega (arith, ltb-true (length (f .variables)) maxVariables r));
       few-lines = h .few-lines;
       variables = each-last (SoundVariable (edition f)) (f .variables) x (h .variables) (record {
+        spelt = n;
         named = name-length name n;
         short = leb-true (length name) maxNameBytes s;
         free = not-true (isReserved (edition f) name) u;

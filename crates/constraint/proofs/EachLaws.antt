@@ -1,10 +1,11 @@
 -- What holds of each element of a list, and of one element more. Assumes nothing.
-use Prim.Native.Nat.{ℕ, suc}
+use Prim.Native.Nat.{ℕ, zero, suc, _<_}
 use mathlib.Core.Path.{_≡_}
 use mathlib.Core.Bool.{Bool, false}
 use mathlib.Core.List.{List, [], _∷_, _++_}
 use mathlib.Core.Option.{none}
-use lib.ListN.{length}
+use native.Mathlib.Omega.{arith}
+use lib.ListN.{length, getD, take}
 use Rattle.refusal.specs.Lists.{firstFrom}
 use Rattle.refusal.proofs.ResultLaws.{never}
 use Rattle.refusal.proofs.ListLaws.{first-none}
@@ -15,10 +16,22 @@ pub each-map : {A : Type 0} {P Q : A → Type 0} → ((x : A) → P x → Q x) �
 each-map h [] p = tt
 each-map h (x ∷ xs) p = (h x (p .0), each-map h xs (p .1))
 
+-- the element at a place
+pub each-at : {A : Type 0} (P : A → Type 0) (xs : List A) (i : ℕ) (d : A) → Each P xs → i < length xs → P (getD xs i d)
+each-at P [] i d p h = let z : ⊥ = omega arith in absurd z
+each-at P (x ∷ xs) zero d p h = p .0
+each-at P (x ∷ xs) (suc i) d p h = each-at P xs i d (p .1) (omega arith)
+
 -- one element more
 pub each-last : {A : Type 0} (P : A → Type 0) (xs : List A) (x : A) → Each P xs → P x → Each P (xs ++ (x ∷ []))
 each-last P [] x p q = (q, tt)
 each-last P (y ∷ xs) x p q = (p .0, each-last P xs x (p .1) q)
+
+-- of the first n elements, those of a front
+pub each-front : {A : Type 0} (P : A → Type 0) (n : ℕ) (xs ys : List A) → Each P (take n (xs ++ ys)) → Each P (take n xs)
+each-front P zero xs ys p = tt
+each-front P (suc n) [] ys p = tt
+each-front P (suc n) (x ∷ xs) ys p = (p .0, each-front P n xs ys (p .1))
 
 -- no element at all
 pub each-none : {A : Type 0} (P : A → Type 0) (xs : List A) → length xs ≡ 0 → Each P xs

@@ -1,18 +1,23 @@
 -- Lines that are read are sound. Assumes nothing.
 use Prim.Native.Nat.{ℕ, zero, suc, _<_}
 use Prim.Native.Char.{code}
-use mathlib.Core.List.{List}
+use mathlib.Core.Path.{_≡_, refl}
+use mathlib.Core.Bool.{true}
+use mathlib.Core.List.{List, [], _∷_, map}
 use native.Mathlib.Nat.{mod-lt}
 use native.Mathlib.Omega.{arith}
 use lib.Dec.{ltb, leb}
-use lib.ListN.{length, length-append}
+use lib.ListN.{length, take, length-append}
 use lib.Pow.{pow-pos}
 use borrow.Author.Tests.{ltb-true}
+use Rattle.edition.specs.declared.Edition.{Edition}
 use Rattle.edition.specs.Edition.{maxLines, maxNameBytes, isWidth}
 use Rattle.refusal.specs.declared.Subject.the-variants.{Constraint}
+use Rattle.refusal.specs.Lists.{every}
 use Rattle.refusal.specs.Result.{Result}
 use Rattle.refusal.proofs.ResultLaws.{Yields, yields-accepted, yields-cond, yields-bind, yields-ensure, yields-both, yields-given}
-use Rattle.operator.specs.Rules.{arity}
+use Rattle.operator.specs.declared.Operator.{Operator}
+use Rattle.operator.specs.Rules.{arity, widthsHold}
 use Rattle.text.specs.Lines.{TextLine, Token, arguments}
 use Rattle.text.specs.Spelling.{isName, isNumeral, decimal, maxDigits, numberBound, isType, typeWidth, upTo, behind}
 use Rattle.text.proofs.ReadingLaws.{yields-next, yields-no-more}
@@ -20,24 +25,35 @@ use Rattle.constraint.specs.declared.Operand.{Operand}
 use Rattle.constraint.specs.declared.Operand.the-variants.{Absent, Var, Const}
 use Rattle.constraint.specs.declared.Operands.{Operands}
 use Rattle.constraint.specs.declared.Line.{Line}
-use Rattle.constraint.specs.File.{Variable, File, withLine, edition, variableNamed}
+use Rattle.constraint.specs.File.{Variable, File, withLine, edition, variableNamed, word, target}
 use Rattle.spelling.specs.Operators.{operatorNamed}
-use Rattle.constraint.specs.Types.{wellTyped}
+use Rattle.constraint.specs.Types.{declared, wellTyped}
 use Rattle.constraint.specs.Tables.{Storable, StorableLine}
 use Rattle.constraint.specs.Read.{readVariable, readConstant, readOperand, nextOperand, readOperands, readOperation, readConstraint, readPredicate}
-use Rattle.constraint.specs.Claims.{SoundOperand, SoundLine, SoundFile}
-use Rattle.constraint.proofs.EachLaws.{each-last}
-use Rattle.constraint.proofs.VariableLaws.{is-width, variable-within}
+use Rattle.constraint.specs.Claims.{Each, SoundOperand, SoundLine, SoundVariable, SoundFile}
+use Rattle.constraint.proofs.EachLaws.{each-last, each-front}
+use Rattle.constraint.proofs.VariableLaws.{is-width, width-test, variable-width, variable-within}
 
 -- ---- operands
-variable-yields : (xs : List Variable) (t : Token) → Yields (SoundOperand xs) (readVariable xs t)
+-- a sound operand that is there
+abbrev Present : List Variable → Operand → Type 0
+Present xs Absent = ⊥
+Present xs (Var i) = SoundOperand xs (Var i)
+Present xs (Const w) = SoundOperand xs (Const w)
+
+sound : (xs : List Variable) (o : Operand) → Present xs o → SoundOperand xs o
+sound xs Absent h = tt
+sound xs (Var i) h = h
+sound xs (Const w) h = h
+
+variable-yields : (xs : List Variable) (t : Token) → Yields (Present xs) (readVariable xs t)
 unfolding readVariable
 variable-yields xs t =
     yields-ensure (leb (length (t .bytes)) maxNameBytes) _ λ _.
     yields-given (variableNamed (t .bytes) xs) _ λ i e.
     yields-accepted (variable-within (t .bytes) xs i e)
 
-constant-yields : (xs : List Variable) (t : Token) → Yields (SoundOperand xs) (readConstant t)
+constant-yields : (xs : List Variable) (t : Token) → Yields (Present xs) (readConstant t)
 unfolding readConstant
 constant-yields xs t =
     let number = upTo (code ":") (t .bytes) in
@@ -47,29 +63,61 @@ constant-yields xs t =
     yields-ensure (ltb (decimal number) numberBound) _ λ _.
     yields-accepted (is-width (typeWidth type) w, mod-lt (decimal number) (pow-pos (typeWidth type)))
 
-operand-yields : (xs : List Variable) (t : Token) → Yields (SoundOperand xs) (readOperand xs t)
+operand-yields : (xs : List Variable) (t : Token) → Yields (Present xs) (readOperand xs t)
 unfolding readOperand
 operand-yields xs t = yields-cond (isName (t .bytes)) (variable-yields xs t) (constant-yields xs t)
 
-next-yields : (xs : List Variable) (l : TextLine) (ts : List Token) → Yields (λ p. SoundOperand xs (p .0)) (nextOperand xs l ts)
+next-yields : (xs : List Variable) (l : TextLine) (ts : List Token) → Yields (λ p. Present xs (p .0)) (nextOperand xs l ts)
 unfolding nextOperand
 next-yields xs l ts =
     yields-next Constraint l ts λ p.
     yields-bind (operand-yields xs (p .0)) λ o h.
     yields-accepted h
 
-record SoundOperands (xs : List Variable) (os : Operands) : Type 0 where
+-- sound operands, of which the first n are there
+record SoundOperands (xs : List Variable) (n : ℕ) (os : Operands) : Type 0 where
   first : SoundOperand xs (os .first)
   second : SoundOperand xs (os .second)
   third : SoundOperand xs (os .third)
+  there : Each (Present xs) (take n (os .first ∷ os .second ∷ os .third ∷ []))
 
-operands-yield : (xs : List Variable) (l : TextLine) (n : ℕ) (ts : List Token) → Yields (λ p. SoundOperands xs (p .0)) (readOperands xs l n ts)
+operands-yield : (xs : List Variable) (l : TextLine) (n : ℕ) (ts : List Token) → Yields (λ p. SoundOperands xs n (p .0)) (readOperands xs l n ts)
 unfolding readOperands
-operands-yield xs l zero ts = yields-accepted (record { first = tt; second = tt; third = tt })
+operands-yield xs l zero ts = yields-accepted (record { first = tt; second = tt; third = tt; there = tt })
 operands-yield xs l (suc n) ts =
     yields-bind (next-yields xs l ts) λ p h.
     yields-bind (operands-yield xs l n (p .1)) λ q k.
-    yields-accepted (record { first = h; second = k .first; third = k .second })
+    let os = q .0 in
+    yields-accepted (record {
+      first = sound xs (p .0) h;
+      second = k .first;
+      third = k .second;
+      there = (h, each-front (Present xs) n (os .first ∷ os .second ∷ []) (os .third ∷ []) (k .there));
+    })
+
+-- ---- the widths of a line
+module _ (e : Edition) (xs : List Variable) (h : Each (SoundVariable e) xs) where
+  present-width : (o : Operand) → Present xs o → isWidth (declared xs o .width) ≡ true
+  unfolding word
+  present-width Absent p = absurd p
+  present-width (Var i) p = variable-width e xs i h p
+  present-width (Const w) p = width-test (w .width) (p .0)
+
+  target-width : (o : Operand) → SoundOperand xs o → isWidth (target xs [] o .width) ≡ true
+  unfolding target word isWidth
+  target-width Absent p = refl
+  target-width (Var i) p = variable-width e xs i h p
+  target-width (Const w) p = width-test (w .width) (p .0)
+
+  present-widths : (n : ℕ) (os : List Operand) → Each (Present xs) (take n os) → every (λ w. isWidth (w .width)) (take n (map (declared xs) os)) ≡ true
+  unfolding every
+  present-widths zero os p = refl
+  present-widths (suc n) [] p = refl
+  present-widths (suc n) (o ∷ os) p = rw (present-width o (p .0)) (present-widths n os (p .1))
+
+  widths-hold : (op : Operator) (o a b c : Operand) → SoundOperand xs o → Each (Present xs) (take (arity op) (a ∷ b ∷ c ∷ [])) → widthsHold op (target xs [] o .width) (declared xs a) (declared xs b) (declared xs c) ≡ true
+  unfolding widthsHold
+  widths-hold op o a b c p q = rw (target-width o p) (present-widths (arity op) (a ∷ b ∷ c ∷ []) q)
 
 -- ---- lines
 -- one line more
@@ -92,14 +140,21 @@ module _ (f : File) (l : TextLine) (h : SoundFile f) where
       let line : Line = record { output = output; operator = op; operands = q .0 } in
       yields-no-more Constraint (q .1)
       (yields-ensure (wellTyped (f .variables) line) _ λ w.
-      yields-accepted (with-line f line h room (record { typed = w; output = o; first = k .first; second = k .second; third = k .third })))
+      yields-accepted (with-line f line h room (record {
+        typed = w;
+        widths = widths-hold (edition f) (f .variables) (h .variables) op output (q .0 .first) (q .0 .second) (q .0 .third) o (k .there);
+        output = o;
+        first = k .first;
+        second = k .second;
+        third = k .third;
+      })))
 
   pub constraint-keeps : Yields (λ line. SoundFile (withLine f line)) (readConstraint f l)
   unfolding readConstraint
   constraint-keeps =
       yields-ensure (ltb (length (f .lines)) maxLines) _ λ e.
       yields-bind (next-yields (f .variables) l (arguments l)) λ p o.
-      operation-keeps (p .0) (p .1) o (ltb-true (length (f .lines)) maxLines e)
+      operation-keeps (p .0) (p .1) (sound (f .variables) (p .0) o) (ltb-true (length (f .lines)) maxLines e)
 
   pub predicate-keeps : Yields (λ line. SoundFile (withLine f line)) (readPredicate f l)
   unfolding readPredicate
@@ -133,7 +188,7 @@ module _ (f : File) (l : TextLine) where
   constraint-fits =
       yields-ensure (ltb (length (f .lines)) maxLines) _ λ e.
       yields-bind (next-yields (f .variables) l (arguments l)) λ p o.
-      with-room (ltb-true (length (f .lines)) maxLines e) (operation-storable (p .0) (p .1) o)
+      with-room (ltb-true (length (f .lines)) maxLines e) (operation-storable (p .0) (p .1) (sound (f .variables) (p .0) o))
 
   pub predicate-fits : Yields (λ line. (length (f .lines) < maxLines) × StorableLine line) (readPredicate f l)
   unfolding readPredicate

@@ -20,7 +20,7 @@ abbrev nothing : Variable
 nothing = record { name = []; width = 0 }
 
 module _ (file starts lens widths : List ℕ) (n : ℕ) where
-  width-is : (i : ℕ) → widthIn widths n i ≡ widthAt (variablesIn file starts lens widths n) i
+  pub width-is : (i : ℕ) → widthIn widths n i ≡ widthAt (variablesIn file starts lens widths n) i
   unfolding widthIn widthAt variablesIn variableIn
   width-is i = elim (decLt i n) [
     | yes h ↦ rw (lt-ltb i n h) (sym (ap (λ x. x .width) (getD-tabulate (variableIn file starts lens widths) n i nothing h)))

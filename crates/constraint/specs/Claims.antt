@@ -7,12 +7,14 @@ use lib.ListN.{length}
 use Rattle.edition.specs.declared.Edition.{Edition}
 use Rattle.edition.specs.Edition.{maxVariables, maxLines, maxNameBytes, maxWidth}
 use Rattle.refusal.specs.Result.{accepted}
+use Rattle.operator.specs.Rules.{widthsHold}
+use Rattle.text.specs.Spelling.{isName}
 use Rattle.constraint.specs.declared.Operand.{Operand}
 use Rattle.constraint.specs.declared.Operand.the-variants.{Absent, Var, Const}
 use Rattle.constraint.specs.declared.Line.{Line}
-use Rattle.constraint.specs.File.{Variable, File, edition}
+use Rattle.constraint.specs.File.{Variable, File, edition, target}
 use Rattle.spelling.specs.Operators.{isReserved}
-use Rattle.constraint.specs.Types.{wellTyped}
+use Rattle.constraint.specs.Types.{declared, wellTyped}
 use Rattle.constraint.specs.Read.{readFile}
 
 -- P holds of each element
@@ -31,16 +33,18 @@ SoundOperand xs Absent = Unit {0}
 SoundOperand xs (Var i) = i < length xs
 SoundOperand xs (Const w) = IsWidth (w .width) × (w .value < 2 ^ w .width)
 
--- a line meets the type rule, and its operands are sound
+-- a line meets the type rule; the operands that its operator takes are there, their widths and its result's are 1 to 64; all its operands are sound
 pub record SoundLine (xs : List Variable) (l : Line) : Type 0 where
   pub typed : wellTyped xs l ≡ true
+  pub widths : widthsHold (l .operator) (target xs [] (l .output) .width) (declared xs (l .operands .first)) (declared xs (l .operands .second)) (declared xs (l .operands .third)) ≡ true
   pub output : SoundOperand xs (l .output)
   pub first : SoundOperand xs (l .operands .first)
   pub second : SoundOperand xs (l .operands .second)
   pub third : SoundOperand xs (l .operands .third)
 
--- a variable's name has 1 to 32 bytes and is not reserved, and its width is 1 to 64
+-- a variable's name is spelt as a name, has 1 to 32 bytes and is not reserved, and its width is 1 to 64
 pub record SoundVariable (e : Edition) (x : Variable) : Type 0 where
+  pub spelt : isName (x .name) ≡ true
   pub named : 1 ≤ length (x .name)
   pub short : length (x .name) ≤ maxNameBytes
   pub free : isReserved e (x .name) ≡ false

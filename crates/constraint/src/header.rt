@@ -11,12 +11,13 @@ use text::Next;
 use text::Number;
 use text::compare::is_word;
 use text::numbers::number_at;
+use text::numbers::number_behind;
 use text::scan::next_token;
 use text::scan::scan;
 ghost use mathlib.Core.Path.{_≡_};
 ghost use mathlib.Core.List.{List};
 ghost use mathlib.Core.Bool.{true, _&&_, not};
-ghost use Prim.Native.Nat.{ℕ, _+_, _<_, _≤_};
+ghost use Prim.Native.Nat.{ℕ, _<_, _≤_};
 ghost use lib.Dec.{eqb};
 ghost use lib.ListN.{length, drop};
 ghost use Rattle.refusal.specs.Lists.{isThere};
@@ -24,7 +25,6 @@ ghost use Rattle.refusal.specs.Result.{refusal as refusalOf};
 ghost use Rattle.refusal.specs.declared.Subject.the-variants.{Constraint};
 ghost use Rattle.edition.specs.Edition.{editionNumbered};
 ghost use Rattle.text.specs.Lines.{tokensFrom};
-ghost use Rattle.text.specs.Scan.{numberOf};
 ghost use Rattle.constraint.specs.Read.{versionOf, expectationOf, readVersion, readExpectation};
 ghost use Rattle.constraint.specs.Answers.{editionBy, Held, fileHeld, lineAt, versionRead, expectationRead, withVersionRead, withExpectationRead, unlessMore, stepResult, InTables, StepInTables};
 
@@ -54,19 +54,6 @@ fn edition_numbered(major: u64, minor: u64) -> Version
     }
 }
 
-// The number behind the byte at `at`; none where the text ends there.
-fn number_behind(text: &[u8], at: usize) -> Number
-    requires { ⌜ at ≤ length (now text) ⌝ }
-    ensures { λ r. ⌜ r ≡ numberOf 4 (drop (at + 1) (now (text .entry))) ⌝ }
-{
-    if at < text.len() {
-        let next = at + 1;
-        number_at(text, next, MAX_VERSION_DIGITS)
-    } else {
-        Number::Misspelt
-    }
-}
-
 // The edition of two numbers as they were read.
 fn edition_of(major: Number, minor: Number) -> Version
     ensures { λ r. ⌜ versionRead r ≡ editionBy major minor ⌝ }
@@ -89,7 +76,7 @@ fn version_at(text: &[u8], at: usize) -> Version
 {
     let dot = scan(text, at, Class::Until(b'.'));
     let major = number_at(&text[..dot], at, MAX_VERSION_DIGITS);
-    let minor = number_behind(text, dot);
+    let minor = number_behind(text, dot, MAX_VERSION_DIGITS);
     edition_of(major, minor)
 }
 

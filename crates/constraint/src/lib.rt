@@ -12,11 +12,11 @@ pub mod claims;
 mod constants;
 mod declarations;
 mod header;
-mod names;
+pub mod names;
 mod operations;
 pub mod reader;
 pub mod tables;
-mod typing;
+pub mod typing;
 
 pub enum Operand {
     // None: the output of a `p` line, and what an operator does not take.

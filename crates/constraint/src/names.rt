@@ -70,7 +70,7 @@ fn variable<'a>(
 }
 
 // The operand from `at` to the end of the text.
-pub fn operand<'a>(
+pub(crate) fn operand<'a>(
     file: &[u8],
     starts: &'a [usize; Edition::VARIABLES],
     lens: &'a [usize; Edition::VARIABLES],
@@ -118,7 +118,7 @@ fn new_name<'a>(
 }
 
 // What the declaration from `at` to the end of the text says.
-pub fn declare<'a>(
+pub(crate) fn declare<'a>(
     file: &[u8],
     starts: &'a [usize; Edition::VARIABLES],
     lens: &'a [usize; Edition::VARIABLES],

@@ -15,7 +15,7 @@ ghost use Rattle.constraint.specs.Typing.{widthIn, wordIn, targetWidthIn
 const I1: u64 = 1;
 
 // The width of variable i of n, or 0.
-fn width_of(widths: &[u64; Edition::VARIABLES], n: usize, i: usize) -> u64
+pub fn width_of(widths: &[u64; Edition::VARIABLES], n: usize, i: usize) -> u64
     requires { ⌜ n ≤ maxVariables ⌝ }
     ensures { λ r. ⌜ r ≡ widthIn (now (widths .entry)) n i ⌝ }
 {

@@ -1,12 +1,14 @@
 -- The first element that passes a test, and things that are not there. Assumes nothing.
-use Prim.Native.Nat.{ℕ, suc, _+_, _<_}
+use Prim.Native.Nat.{ℕ, suc, _+_, _≤_, _<_}
 use mathlib.Core.Path.{_≡_, refl}
 use mathlib.Core.Bool.{Bool, true, false, not, cond}
 use mathlib.Core.List.{List, [], _∷_, _++_}
 use mathlib.Core.Option.{Option, none, some}
 use native.Mathlib.Nat.{add-zero}
+use native.Mathlib.Numerals.{add-one}
 use native.Mathlib.Omega.{arith}
-use lib.ListN.{length}
+use lib.ListN.{length, getD, drop, drop-of-length-le}
+use lib.Seq.{drop-cons}
 use Rattle.refusal.specs.Lists.{firstFrom, isThere}
 use Rattle.refusal.proofs.ResultLaws.{never}
 
@@ -52,3 +54,20 @@ first-behind test n (x ∷ xs) ys e =
     let h = first-none test n x xs e in
     let k : suc n + length xs ≡ n + suc (length xs) = omega arith in
     rw (h .0, ← k) (first-behind test (suc n) xs ys (h .1))
+
+-- ---- found from one place to the next
+module _ {A : Type 0} (test : A → Bool) (n : ℕ) (l : List A) (i : ℕ) where
+  -- the element at place i, and those behind it
+  module _ (d : A) (h : i < length l) where
+    pub first-here : test (getD l i d) ≡ true → firstFrom test n (drop i l) ≡ some n
+    unfolding firstFrom
+    first-here k = rw (drop-cons l i d h, k)
+
+    pub first-later : test (getD l i d) ≡ false → firstFrom test n (drop i l) ≡ firstFrom test (n + 1) (drop (i + 1) l)
+    unfolding firstFrom
+    first-later k = rw (drop-cons l i d h, k, add-one i, add-one n)
+
+  -- past the last element
+  pub first-nowhere : length l ≤ i → firstFrom test n (drop i l) ≡ none
+  unfolding firstFrom
+  first-nowhere h = rw (drop-of-length-le l h)

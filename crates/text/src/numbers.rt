@@ -42,6 +42,19 @@ pub fn number_at(text: &[u8], at: usize, most: usize) -> Number
     Number::Value(n)
 }
 
+// The number of 1 to `most` digits behind the byte at `at`; none where the text ends there.
+pub fn number_behind(text: &[u8], at: usize, most: usize) -> Number
+    requires { ⌜ at ≤ length (now text) ⌝ }
+    ensures { λ r. ⌜ r ≡ numberOf most (drop (at + 1) (now (text .entry))) ⌝ }
+{
+    if at < text.len() {
+        let next = at + 1;
+        number_at(text, next, most)
+    } else {
+        Number::Misspelt
+    }
+}
+
 // Whether a zero stands in front of another digit.
 fn leading_zero(text: &[u8], at: usize) -> bool
     requires { ⌜ at ≤ length (now text) ⌝ }

@@ -1,11 +1,12 @@
+-- `number_behind` meets its contract: behind the end there is no number.
 use native.Mathlib.Omega.{arith}
 use lib.ListN.{length, drop-of-length-le}
 use Prim.Native.Nat.{_+_, _≤_}
 use Rattle.text.specs.Spelling.{isNumeral}
 use Rattle.text.specs.Scan.{numberOf}
 use borrow.Author.Needs.{needs}
-use Rattle.constraint.proofs.header.number_behind.Statement.{statement}
-use Rattle.constraint.proofs.header.number_behind.Tie as tie
+use Rattle.text.proofs.numbers.number_behind.Statement.{statement}
+use Rattle.text.proofs.numbers.number_behind.Tie as tie
 
 add-next : tie.Need-add-next
 add-next c = search needs

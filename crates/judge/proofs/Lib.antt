@@ -1,0 +1,6 @@
+-- Laws that belong to no one function.
+pub mod UnnamedLaws
+pub mod UnfitLaws
+pub mod FitLaws
+pub mod VerdictLaws
+pub mod ResultLaws

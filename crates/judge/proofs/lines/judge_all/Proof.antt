@@ -1,0 +1,71 @@
+-- `judge_all` meets its contract. The loop's invariant: the first i verdicts are put down, and those behind them are as they were.
+use Prim.Native.Nat.{_-_, _≤_}
+use mathlib.Core.Path.{_≡_, refl, _∙_}
+use mathlib.Core.List.{_++_}
+use native.Mathlib.Omega.{arith}
+use lib.ListN.{length, drop, length-set}
+use borrow.Author.Needs.{needs}
+use Rattle.constraint.specs.Tables.{tabulate, linesIn}
+use Rattle.judge.specs.Judge.{verdictsOf}
+use Rattle.judge.specs.Unnamed.{unnamed, Fitting}
+use Rattle.judge.proofs.VerdictLaws.{each-line, verdict-put}
+use Rattle.judge.proofs.lines.judge_all.Statement.{statement}
+use Rattle.judge.proofs.lines.judge_all.Tie as tie
+
+abbrev Inv-loop : tie.InvT-loop
+Inv-loop widths n lines m row verdicts₀ i₀ verdicts i = (i ≤ m) × (length verdicts ≡ length verdicts₀) × (verdicts ≡ verdictsOf (unnamed widths n) row (linesIn lines i) ++ drop i verdicts₀)
+
+abbrev μ-loop : tie.MeasureT-loop
+μ-loop widths n lines m row verdicts₀ i₀ verdicts i = m - i
+
+loop-holds : tie.Need-loop-holds Inv-loop μ-loop
+unfolding verdictsOf linesIn tabulate
+loop-holds c = (search needs, refl, refl)
+
+load-line-requires : tie.Need-load-line-requires Inv-loop μ-loop
+load-line-requires c κs = search needs
+
+judge-line-requires : tie.Need-judge-line-requires Inv-loop μ-loop
+judge-line-requires c κs =
+    let s = c .before .before .before .before .before in
+    (s .pre .0, rw (c .load-line .ensures) (each-line (Fitting _ _) _ _ _ (s .pre .4) (c .before .loop-test .taken)))
+
+slice-write-verdicts : tie.Need-slice-write-verdicts Inv-loop μ-loop
+slice-write-verdicts c = search needs
+
+add-i : tie.Need-add-i Inv-loop μ-loop
+add-i c = search needs
+
+loop-less : tie.Need-loop-less Inv-loop μ-loop
+loop-less c = search needs
+
+loop-again : tie.Need-loop-again Inv-loop μ-loop
+loop-again c =
+    let l = c .before .before .before .loop in
+    let s = c .before .before .before .before .before .before in
+    (search needs, length-set (l .verdicts) _ _ ∙ l .inv .1, rw (c .judge-line .ensures, c .before .load-line .ensures, l .inv .2) (verdict-put _ _ _ (l .i) (s .args .verdicts .now) (omega arith)))
+
+same-length : tie.Need-same-length Inv-loop μ-loop
+same-length c = c .before .loop .inv .1
+
+returns : tie.Need-returns Inv-loop μ-loop
+returns c =
+    let l = c .before .loop in
+    let e : l .i ≡ c .before .before .before .before .args .m = omega arith in
+    rw e at (l .inv .2)
+
+pub judge-all-spec : {M : Type 1} → statement M
+judge-all-spec =
+    tie.close
+    (tie.spec
+    Inv-loop
+    μ-loop
+    loop-holds
+    load-line-requires
+    judge-line-requires
+    slice-write-verdicts
+    add-i
+    loop-less
+    loop-again
+    same-length
+    returns)

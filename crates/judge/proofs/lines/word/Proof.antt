@@ -1,0 +1,48 @@
+use mathlib.Core.List.{[]}
+use borrow.Author.Needs.{needs}
+use Rattle.constraint.specs.File.{word}
+use Rattle.constraint.proofs.TypingLaws.{width-is}
+use Rattle.judge.proofs.lines.word.Statement.{statement}
+use Rattle.judge.proofs.lines.word.Tie as tie
+
+enum-told : tie.Need-enum-told
+enum-told c = search needs
+
+enum-known-o : tie.Need-enum-known-o
+enum-known-o c = search needs
+
+width-of-requires : tie.Need-width-of-requires
+width-of-requires c κs = search needs
+
+value-of-requires : tie.Need-value-of-requires
+value-of-requires c κs = search needs
+
+enum-known-o-2 : tie.Need-enum-known-o-2
+enum-known-o-2 c = search needs
+
+returns : tie.Need-returns
+unfolding word
+returns c = rw (c .enum-told .given .1)
+
+returns-2 : tie.Need-returns-2
+unfolding word
+returns-2 c =
+    let s = c .before .before .before .before .before .before .args in
+    rw (c .before .before .before .o .given .1, c .value-of .ensures, c .before .width-of .ensures, width-is [] [] [] (s .widths .now) (s .n))
+
+returns-3 : tie.Need-returns-3
+unfolding word
+returns-3 c = rw (c .before .o2 .given .1)
+
+pub word-spec : {M : Type 1} → statement M
+word-spec =
+    tie.close
+    (tie.spec
+    enum-told
+    enum-known-o
+    width-of-requires
+    value-of-requires
+    enum-known-o-2
+    returns
+    returns-2
+    returns-3)

@@ -1,0 +1,57 @@
+-- The verdicts on the lines of a file under a row of values, one for each variable in declaration order.
+use Prim.Native.Nat.{ℕ}
+use mathlib.Core.Bool.{cond}
+use mathlib.Core.List.{List, map}
+use mathlib.Core.Option.{Option, none, some}
+use lib.Dec.{eqb}
+use Rattle.refusal.specs.Lists.{firstFrom}
+use Rattle.operator.specs.Meaning.{meaning}
+use Rattle.constraint.specs.declared.Line.{Line}
+use Rattle.constraint.specs.File.{Variable, File, word, target}
+use Rattle.judge.specs.declared.Judged.{Judged}
+use Rattle.judge.specs.declared.Overall.{Overall}
+use Rattle.judge.specs.declared.Overall.the-variants.{Satisfied, Violated, Disregarded}
+
+-- "Verdict bytes: 1 holds, 0 violated, 2 disregarded"
+abbrev pub violated : ℕ
+violated = 0
+
+abbrev pub holds : ℕ
+holds = 1
+
+abbrev pub disregarded : ℕ
+disregarded = 2
+
+-- the result of a line, of the width of its target; missing where its divisor is zero
+unfoldable pub result : List Variable → List ℕ → Line → Option ℕ
+result xs row l = meaning (l .operator) (target xs row (l .output) .width) (word xs row (l .operands .first)) (word xs row (l .operands .second)) (word xs row (l .operands .third))
+
+-- a result against what it must be: the verdict, and the result, 0 where there is none
+abbrev pub judged : Option ℕ → ℕ → Judged
+judged none goal = record { verdict = disregarded; result = 0 }
+judged (some r) goal = record { verdict = cond (eqb r goal) holds violated; result = r }
+
+-- "A line holds if the result equals the output (`c`) or is 1 (`p`)"
+unfoldable pub judge : List Variable → List ℕ → Line → Judged
+judge xs row l = judged (result xs row l) (target xs row (l .output) .value)
+
+-- the verdicts on lines
+unfoldable pub verdictsOf : List Variable → List ℕ → List Line → List ℕ
+verdictsOf xs row = map (λ l. judge xs row l .verdict)
+
+-- a row's verdicts, "worked out anew for every line by the meanings": the fresh check
+abbrev pub freshVerdicts : File → List ℕ → List ℕ
+freshVerdicts f row = verdictsOf (f .variables) row (f .lines)
+
+-- the line, from 1, of the first verdict v
+unfoldable pub firstVerdict : ℕ → List ℕ → Option ℕ
+firstVerdict v = firstFrom (eqb v) 1
+
+-- "disregarded if any line is 2, else violated if any is 0, else satisfied; the first two name the first such line, from 1"
+abbrev pub overallBy : Option ℕ → Option ℕ → Overall
+overallBy (some n) other = Disregarded n
+overallBy none (some n) = Violated n
+overallBy none none = Satisfied
+
+unfoldable pub overall : List ℕ → Overall
+overall vs = overallBy (firstVerdict disregarded vs) (firstVerdict violated vs)

@@ -1,0 +1,4 @@
+pub mod Judge
+pub mod InUse
+pub mod Claims
+pub mod Unnamed

@@ -1,0 +1,115 @@
+// The verdict on a stored line, and on all of them.
+use super::Judged;
+use constraint::Line;
+use constraint::Operand;
+use constraint::tables::TABLE_WORDS;
+use constraint::tables::load_line;
+use constraint::typing::width_of;
+use edition::Edition;
+use operator::Applied;
+use operator::Word;
+use operator::apply;
+ghost use mathlib.Core.Path.{_≡_};
+ghost use mathlib.Core.List.{_++_};
+ghost use Prim.Native.Nat.{_≤_};
+ghost use lib.ListN.{length, getD, drop};
+ghost use Rattle.edition.specs.Edition.{maxVariables, maxLines};
+ghost use Rattle.constraint.specs.File.{word as wordOf, target as targetOf};
+ghost use Rattle.constraint.specs.Tables.{tableWords, linesIn};
+ghost use Rattle.constraint.specs.Claims.{Each};
+ghost use Rattle.judge.specs.Judge.{judge, verdictsOf};
+ghost use Rattle.judge.specs.Unnamed.{unnamed, Fitting};
+
+// The value of variable i, or 0.
+fn value_of(row: &[u64], i: usize) -> u64
+    ensures { λ r. ⌜ r ≡ getD (now (row .entry)) i 0 ⌝ }
+{
+    if i < row.len() { row[i] } else { 0 }
+}
+
+// An operand, of n variables with these widths, under a row of values.
+fn word(widths: &[u64; Edition::VARIABLES], n: usize, row: &[u64], o: Operand) -> Word
+    requires { ⌜ n ≤ maxVariables ⌝ }
+    ensures { λ r. ⌜ r ≡ wordOf (unnamed (now (widths .entry)) n) (now (row .entry)) o ⌝ }
+{
+    match o {
+        Operand::Absent => Word { width: 0, value: 0 },
+        Operand::Var(i) => Word {
+            width: width_of(widths, n, i),
+            value: value_of(row, i),
+        },
+        Operand::Const(w) => w,
+    }
+}
+
+// What a line's operator must give.
+fn target(widths: &[u64; Edition::VARIABLES], n: usize, row: &[u64], o: Operand) -> Word
+    requires { ⌜ n ≤ maxVariables ⌝ }
+    ensures { λ r. ⌜ r ≡ targetOf (unnamed (now (widths .entry)) n) (now (row .entry)) o ⌝ }
+{
+    match o {
+        Operand::Absent => Word { width: 1, value: 1 },
+        Operand::Var(_) => word(widths, n, row, o),
+        Operand::Const(w) => w,
+    }
+}
+
+// The verdict on a line whose operands fit, and its result.
+pub fn judge_line(widths: &[u64; Edition::VARIABLES], n: usize, row: &[u64], line: Line) -> Judged
+    requires { ⌜ (n ≤ maxVariables) × Fitting (unnamed (now widths) n) (now row) line ⌝ }
+    ensures { λ r. ⌜ r ≡ judge (unnamed (now (widths .entry)) n) (now (row .entry)) line ⌝ }
+{
+    let op = line.operator;
+    let output = line.output;
+    let operands = line.operands;
+    let first = operands.first;
+    let second = operands.second;
+    let third = operands.third;
+    let a = word(widths, n, row, first);
+    let b = word(widths, n, row, second);
+    let c = word(widths, n, row, third);
+    let goal = target(widths, n, row, output);
+    match apply(op, goal.width, a, b, c) {
+        Applied::Value(result) => {
+            if result == goal.value {
+                Judged {
+                    verdict: Judged::HOLDS,
+                    result,
+                }
+            } else {
+                Judged {
+                    verdict: Judged::VIOLATED,
+                    result,
+                }
+            }
+        }
+        Applied::ZeroDivisor => Judged {
+            verdict: Judged::DISREGARDED,
+            result: 0,
+        },
+        Applied::Refused(_) => Judged {
+            verdict: Judged::DISREGARDED,
+            result: 0,
+        },
+    }
+}
+
+// Puts the verdicts on the first m lines of the table at the front of `verdicts`.
+pub fn judge_all<'a>(
+    widths: &'a [u64; Edition::VARIABLES],
+    n: usize,
+    lines: &'a [u64; TABLE_WORDS],
+    m: usize,
+    row: &[u64],
+    verdicts: &mut [u8],
+)
+    requires { ⌜ (n ≤ maxVariables) × (m ≤ maxLines) × (length (now lines) ≡ tableWords) × (m ≤ length (now verdicts)) × Each (Fitting (unnamed (now widths) n) (now row)) (linesIn (now lines) m) ⌝ }
+    ensures { λ _. ⌜ now (verdicts .exit) ≡ verdictsOf (unnamed (now (widths .entry)) n) (now (row .entry)) (linesIn (now (lines .entry)) m) ++ drop m (now (verdicts .entry)) ⌝ }
+{
+    let mut i = 0;
+    while i < m {
+        let judged = judge_line(widths, n, row, load_line(lines, i));
+        verdicts[i] = judged.verdict;
+        i += 1;
+    }
+}

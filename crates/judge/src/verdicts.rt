@@ -1,0 +1,34 @@
+// The overall verdict of a table.
+use super::Judged;
+use super::Overall;
+use constraint::Found;
+ghost use mathlib.Core.Path.{_≡_};
+ghost use Rattle.constraint.specs.Answers.{place};
+ghost use Rattle.judge.specs.Judge.{firstVerdict, overall as overallOf};
+
+// The line, from 1, of the first verdict v.
+fn first_verdict(verdicts: &[u8], v: u8) -> Found
+    ensures { λ r. ⌜ place r ≡ firstVerdict v (now (verdicts .entry)) ⌝ }
+{
+    let mut i = 0;
+    while i < verdicts.len() {
+        if v == verdicts[i] {
+            return Found::At(i + 1);
+        }
+        i += 1;
+    }
+    Found::Nowhere
+}
+
+// Disregarded if any line is, else violated if any is, else satisfied.
+pub fn overall(verdicts: &[u8]) -> Overall
+    ensures { λ r. ⌜ r ≡ overallOf (now (verdicts .entry)) ⌝ }
+{
+    match first_verdict(verdicts, Judged::DISREGARDED) {
+        Found::At(n) => Overall::Disregarded(n),
+        Found::Nowhere => match first_verdict(verdicts, Judged::VIOLATED) {
+            Found::At(n) => Overall::Violated(n),
+            Found::Nowhere => Overall::Satisfied,
+        },
+    }
+}
