@@ -1,30 +1,22 @@
 -- Reading line by line. Assumes nothing.
+use Prim.Native.Nat.{ℕ, _≤_, _<_}
 use mathlib.Core.Path.{_≡_, refl, sym, ap, _∙_}
-use mathlib.Core.Bool.{true, false}
 use mathlib.Core.List.{List}
 use mathlib.Core.Option.{none, some}
-use Prim.Native.Nat.{ℕ, _+_, _≤_, _<_, min}
-use native.Mathlib.Decide.{decLt}
 use native.Mathlib.Nat.{add-zero}
 use native.Mathlib.Omega.{arith}
-use lib.ListN.{length, getD, take, drop}
+use lib.ListN.{length, getD, drop}
 use lib.Seq.{getD-drop}
-use borrow.Author.Tests.{le-leb, lt-leb}
 use Rattle.edition.specs.declared.Edition.{Edition}
 use Rattle.edition.specs.Edition.{maxFileBytes, maxLines}
 use Rattle.refusal.specs.declared.Refusal.{Refusal}
 use Rattle.refusal.specs.declared.Subject.the-variants.{Constraint}
-use Rattle.refusal.specs.Numbers.{fileTooLong, byteNotAllowed, misplacedLine}
-use Rattle.refusal.specs.Lists.{every}
+use Rattle.refusal.specs.Numbers.{fileTooLong, misplacedLine}
 use Rattle.refusal.specs.Result.{Result, accepted, refused, refusal}
-use Rattle.refusal.proofs.ResultLaws.{never, Yields}
-use Rattle.text.specs.declared.Class.the-variants.{Until}
-use Rattle.text.specs.Bytes.{run, isSpace, isAllowed}
-use Rattle.text.specs.Lines.{TextLine, linesFrom}
-use Rattle.text.specs.Reading.{readAnyLine, readLines, readText}
-use Rattle.text.specs.Scan.{isOf, past}
-use Rattle.text.proofs.RunLaws.{every-end}
-use Rattle.text.proofs.LineLaws.{lines-turn, lines-end}
+use Rattle.refusal.proofs.ResultLaws.{Yields}
+use Rattle.text.specs.Lines.{TextLine, lines}
+use Rattle.text.specs.Reading.{readLines}
+use Rattle.text.proofs.ReadingLaws.{text-long, text-lines}
 use Rattle.constraint.specs.declared.Line.{Line}
 use Rattle.constraint.specs.declared.LineRead.{LineRead}
 use Rattle.constraint.specs.declared.LineRead.the-variants.{HasLine, NoLine}
@@ -35,7 +27,7 @@ use Rattle.constraint.specs.File.{File, emptyFile}
 use Rattle.constraint.specs.Tables.{tabulate, variablesIn, linesIn, StorableLine}
 use Rattle.constraint.specs.Read.{kindOf, readAs, readLine, readFile}
 use Rattle.constraint.specs.Inspect.{inspected}
-use Rattle.constraint.specs.Answers.{lineResult, HasRoom, nothingRead, lineAt, Held, held, Whole, fileHeld, InTables}
+use Rattle.constraint.specs.Answers.{lineResult, HasRoom, nothingRead, Held, fileHeld}
 use Rattle.constraint.proofs.TableLaws.{lines-length}
 use Rattle.constraint.proofs.LookupLaws.{variables-length}
 
@@ -55,71 +47,29 @@ has-room table p (HasLine l) e y =
     (omega (arith, q .0, lines-length table (p .lines)), q .1)
 has-room table p (NoLine r) e y = tt
 
--- a line that is not blank has a byte
-pub not-at-end : (line : List ℕ) (at : ℕ) → every isSpace (drop at line) ≡ false → at < length line
-not-at-end line at e = elim (decLt at (length line)) [
-  | yes h ↦ h
-  | no h ↦ never (cc (e, every-end isSpace line at (omega arith)))
-]
-
--- ---- any line: the bytes that are not allowed, then blank lines
-module _ (f : File) (line : List ℕ) (at next : ℕ) where
-  pub any-bad : (bad : ℕ) → every isAllowed (drop at line) ≡ false → at + length (run isAllowed (drop at line)) ≡ bad → refused (refusal Constraint byteNotAllowed bad) ≡ readAnyLine Constraint readLine f (lineAt line at next)
-  unfolding readAnyLine
-  any-bad bad e p = rw (e, p)
-
-  module _ (e : every isAllowed (drop at line) ≡ true) where
-    pub any-blank : every isSpace (drop at line) ≡ true → accepted f ≡ readAnyLine Constraint readLine f (lineAt line at next)
-    unfolding readAnyLine
-    any-blank b = rw (e, b)
-
-    pub any-line : every isSpace (drop at line) ≡ false → readLine f (lineAt line at next) ≡ readAnyLine Constraint readLine f (lineAt line at next)
-    unfolding readAnyLine
-    any-line b = rw (e, b)
-
--- ---- the loop: what is left to read, from what is held, is what there was to read
-pub record Reading (file starts lens widths lines : List ℕ) (p : Progress) (i : ℕ) : Type 0 where
-  pub within : i ≤ length file
-  pub whole : Whole (held starts lens widths lines)
-  pub counts : InTables p
-  pub rest : readLines Constraint readLine (fileHeld file (held starts lens widths lines) p) (linesFrom true i (drop i file)) ≡ readLines Constraint readLine emptyFile (linesFrom true 0 file)
-
-pub reading-starts : (file starts lens widths lines : List ℕ) (p : Progress) → p ≡ nothingRead → Whole (held starts lens widths lines) → Reading file starts lens widths lines p 0
+-- before the first line nothing is held
+pub nothing-held : (bytes : List ℕ) (t : Held) → fileHeld bytes t nothingRead ≡ emptyFile
 unfolding variablesIn linesIn tabulate
-reading-starts file starts lens widths lines p e w = rw e (record { within = omega arith; whole = w; counts = record { variables = omega arith; lines = omega arith }; rest = refl })
-
-module _ {file starts lens widths lines : List ℕ} {p : Progress} {i : ℕ} (inv : Reading file starts lens widths lines p i) where
-  pub reading-ends : length file ≤ i → accepted (fileHeld file (held starts lens widths lines) p) ≡ readLines Constraint readLine emptyFile (linesFrom true 0 file)
-  unfolding readLines
-  reading-ends h = rw (lines-end file i h) at (inv .rest)
-
-  module _ (stop next : ℕ) (h : i < length file) (hs : stop ≡ past (isOf (Until 10)) file i) (hn : next ≡ min (stop + 1) (length file)) where
-    pub reading-stops : (r : Refusal) → refused r ≡ readAnyLine Constraint readLine (fileHeld file (held starts lens widths lines) p) (lineAt (take stop file) i next) → refused r ≡ readLines Constraint readLine emptyFile (linesFrom true 0 file)
-    unfolding readLines
-    reading-stops r e = rw (← e) at (rw (lines-turn file i stop next h hs hn) at (inv .rest))
-
-    pub reading-goes : (g : File) → accepted g ≡ readAnyLine Constraint readLine (fileHeld file (held starts lens widths lines) p) (lineAt (take stop file) i next) → readLines Constraint readLine g (linesFrom true next (drop next file)) ≡ readLines Constraint readLine emptyFile (linesFrom true 0 file)
-    unfolding readLines
-    reading-goes g e = rw (← e) at (rw (lines-turn file i stop next h hs hn) at (inv .rest))
+nothing-held bytes t = refl
 
 -- ---- the whole file
 pub file-long : (bytes : List ℕ) → maxFileBytes < length bytes → refused (refusal Constraint fileTooLong maxFileBytes) ≡ readFile bytes
-unfolding readFile readText
-file-long bytes h = rw (lt-leb (length bytes) maxFileBytes h)
+unfolding readFile
+file-long bytes h = rw (← text-long Constraint readLine emptyFile bytes h)
 
 module _ (bytes : List ℕ) (h : length bytes ≤ maxFileBytes) where
-  pub file-refused : (r : Refusal) → refused r ≡ readLines Constraint readLine emptyFile (linesFrom true 0 bytes) → refused r ≡ readFile bytes
-  unfolding readFile readText
-  file-refused r e = rw (le-leb (length bytes) maxFileBytes h, ← e)
+  pub file-refused : (r : Refusal) → refused r ≡ readLines Constraint readLine emptyFile (lines bytes) → refused r ≡ readFile bytes
+  unfolding readFile
+  file-refused r e = rw (← text-lines Constraint readLine emptyFile bytes h, ← e)
 
-  module _ (f : File) (e : accepted f ≡ readLines Constraint readLine emptyFile (linesFrom true 0 bytes)) where
+  module _ (f : File) (e : accepted f ≡ readLines Constraint readLine emptyFile (lines bytes)) where
     pub file-unversioned : f .version ≡ none → refused (refusal Constraint misplacedLine (length bytes)) ≡ readFile bytes
-    unfolding readFile readText
-    file-unversioned v = rw (le-leb (length bytes) maxFileBytes h, ← e, v)
+    unfolding readFile
+    file-unversioned v = rw (← text-lines Constraint readLine emptyFile bytes h, ← e, v)
 
     pub file-read : (d : Edition) → f .version ≡ some d → accepted f ≡ readFile bytes
-    unfolding readFile readText
-    file-read d v = rw (le-leb (length bytes) maxFileBytes h, ← e, v)
+    unfolding readFile
+    file-read d v = rw (← text-lines Constraint readLine emptyFile bytes h, ← e, v)
 
 -- the counts of what is held are the file's
 pub counts-are : (bytes : List ℕ) (t : Held) (p : Progress) → Sound (record { variables = p .variables; lines = p .lines }) ≡ inspected (accepted (fileHeld bytes t p))

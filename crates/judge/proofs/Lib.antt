@@ -4,3 +4,5 @@ pub mod UnfitLaws
 pub mod FitLaws
 pub mod VerdictLaws
 pub mod ResultLaws
+pub mod OverallLaws
+pub mod HeldLaws

@@ -1,6 +1,6 @@
 -- Tests that are joined by `&&`. Assumes nothing.
 use mathlib.Core.Path.{_≡_, refl}
-use mathlib.Core.Bool.{Bool, true, false, _&&_}
+use mathlib.Core.Bool.{Bool, true, false, _&&_, _||_}
 use Rattle.refusal.proofs.ResultLaws.{never}
 
 -- both of two tests pass
@@ -24,3 +24,13 @@ and-two false y = refl
 pub and-three : (x y z : Bool) → (x && (y && (z && true))) ≡ ((x && y) && z)
 and-three true y z = and-two y z
 and-three false y z = refl
+
+-- a test that does not pass
+pub fails : (t : Bool) → (t ≡ true → ⊥) → t ≡ false
+fails true h = absurd (h refl)
+fails false h = refl
+
+-- one of two tests passes
+pub either : {A : Type 0} (x y : Bool) → (x ≡ true → A) → (y ≡ true → A) → (x || y) ≡ true → A
+either true y f g e = f refl
+either false y f g e = g e

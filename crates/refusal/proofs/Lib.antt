@@ -2,3 +2,4 @@
 pub mod ResultLaws
 pub mod ListLaws
 pub mod BoolLaws
+pub mod RefusesLaws

@@ -1,4 +1,4 @@
--- The first element that passes a test, and things that are not there. Assumes nothing.
+-- Elements that pass a test: all of them, the first of them; and things that are not there. Assumes nothing.
 use Prim.Native.Nat.{ℕ, suc, _+_, _≤_, _<_}
 use mathlib.Core.Path.{_≡_, refl}
 use mathlib.Core.Bool.{Bool, true, false, not, cond}
@@ -9,8 +9,9 @@ use native.Mathlib.Numerals.{add-one}
 use native.Mathlib.Omega.{arith}
 use lib.ListN.{length, getD, drop, drop-of-length-le}
 use lib.Seq.{drop-cons}
-use Rattle.refusal.specs.Lists.{firstFrom, isThere}
+use Rattle.refusal.specs.Lists.{firstFrom, isThere, every}
 use Rattle.refusal.proofs.ResultLaws.{never}
+use Rattle.refusal.proofs.BoolLaws.{and-true}
 
 -- a thing that is not there
 pub not-there : {A : Type 0} (o : Option A) → not (isThere o) ≡ true → o ≡ none
@@ -35,6 +36,16 @@ pub first-below : {A : Type 0} (test : A → Bool) (n i : ℕ) (xs : List A) →
 unfolding firstFrom
 first-below test n i [] e = never (cc e)
 first-below test n i (x ∷ xs) e = below (test x) n i (length xs) (firstFrom test (suc n) xs) (first-below test (suc n) i xs) e
+
+-- counted from n, a first is not before n
+not-before : (t : Bool) (n i : ℕ) (rest : Option ℕ) → (rest ≡ some i → suc n ≤ i) → cond t (some n) rest ≡ some i → n ≤ i
+not-before true n i rest h e = let z : n ≡ i = cc e in omega arith
+not-before false n i rest h e = let z = h e in omega arith
+
+pub first-from : {A : Type 0} (test : A → Bool) (n i : ℕ) (xs : List A) → firstFrom test n xs ≡ some i → n ≤ i
+unfolding firstFrom
+first-from test n i [] e = never (cc e)
+first-from test n i (x ∷ xs) e = not-before (test x) n i (firstFrom test (suc n) xs) (first-from test (suc n) i xs) e
 
 -- a first stays the first, whatever stands behind the list
 kept : (t : Bool) (n i : ℕ) (rest more : Option ℕ) → (rest ≡ some i → more ≡ some i) → cond t (some n) rest ≡ some i → cond t (some n) more ≡ some i
@@ -71,3 +82,25 @@ module _ {A : Type 0} (test : A → Bool) (n : ℕ) (l : List A) (i : ℕ) where
   pub first-nowhere : length l ≤ i → firstFrom test n (drop i l) ≡ none
   unfolding firstFrom
   first-nowhere h = rw (drop-of-length-le l h)
+
+-- the first element that passes a test passes it
+passes : (P : ℕ → Type 0) (t : Bool) (n i : ℕ) (rest : Option ℕ) → (t ≡ true → P 0) → (rest ≡ some i → (k : ℕ) × (i ≡ suc n + k) × P (suc k)) → cond t (some n) rest ≡ some i → (k : ℕ) × (i ≡ n + k) × P k
+passes P true n i rest here later e = let z : n ≡ i = cc e in (0, omega arith, here refl)
+passes P false n i rest here later e = let p = later e in (suc (p .0), omega arith, p .2)
+
+pub first-passes : {A : Type 0} (test : A → Bool) (d : A) (n i : ℕ) (xs : List A) → firstFrom test n xs ≡ some i → (k : ℕ) × (i ≡ n + k) × (test (getD xs k d) ≡ true)
+unfolding firstFrom
+first-passes test d n i [] e = never (cc e)
+first-passes test d n i (x ∷ xs) e = passes (λ k. test (getD (x ∷ xs) k d) ≡ true) (test x) n i (firstFrom test (suc n) xs) (λ t. t) (first-passes test d (suc n) i xs) e
+
+-- every element passes, of one list and of another behind it
+pub every-append : {A : Type 0} (p : A → Bool) (s t : List A) → every p s ≡ true → every p t ≡ true → every p (s ++ t) ≡ true
+unfolding every
+every-append p [] t h k = k
+every-append p (b ∷ s) t h k = let q = and-true (p b) (every p s) h in rw (q .0) (every-append p s t (q .1) k)
+
+-- what passes one test passes another
+pub every-weaken : {A : Type 0} (p q : A → Bool) → ((a : A) → p a ≡ true → q a ≡ true) → (s : List A) → every p s ≡ true → every q s ≡ true
+unfolding every
+every-weaken p q f [] h = refl
+every-weaken p q f (b ∷ s) h = let z = and-true (p b) (every p s) h in rw (f b (z .0)) (every-weaken p q f s (z .1))

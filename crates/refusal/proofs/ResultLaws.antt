@@ -5,7 +5,7 @@ use mathlib.Core.Bool.{Bool, true, false, cond, _&&_}
 use mathlib.Core.Option.{Option, none, some}
 use native.Mathlib.Omega.{arith}
 use Rattle.refusal.specs.declared.Refusal.{Refusal}
-use Rattle.refusal.specs.Result.{Result, accepted, refused, ensure, given, _>>=_, _>>_}
+use Rattle.refusal.specs.Result.{Result, accepted, refused, ensure, ensureNone, given, _>>=_, _>>_}
 
 -- what has two different constructors is impossible: `never (cc e)`
 pub never : {A : Type 0} → _≡_ {A = ℕ} 0 1 → A
@@ -42,7 +42,38 @@ module _ {B : Type 0} {Q : B → Type 0} where
   yields-both true t r n = yields-ensure t r (n refl)
   yields-both false t r n = yields-refused
 
+  -- no fault, then the next
+  pub yields-none : (o : Option ℕ) (r : ℕ → Refusal) {next : Result B} → (o ≡ none → Yields Q next) → Yields Q (ensureNone o r >> next)
+  yields-none none r n = n refl
+  yields-none (some i) r n = yields-refused
+
   -- a value, then the next
   pub yields-given : {A : Type 0} (o : Option A) (r : Refusal) {next : A → Result B} → ((a : A) → o ≡ some a → Yields Q (next a)) → Yields Q (given o r >>= next)
   yields-given (some a) r n = n a refl
   yields-given none r n = yields-refused
+
+-- what follows from what holds of all that a result accepts
+pub yields-also : {A : Type 0} {P Q : A → Type 0} {r : Result A} → ((a : A) → P a → Q a) → Yields P r → Yields Q r
+yields-also f y = record { holds = λ a e. f a (y .holds a e) }
+
+-- of what a result accepts it holds that the result accepts it
+pub yields-itself : {A : Type 0} (r : Result A) → Yields (λ a. r ≡ accepted a) r
+yields-itself r = record { holds = λ a e. e }
+
+-- where a step and the next are accepted, each is
+pub bind-accepted : {A B : Type 0} (m : Result A) (next : A → Result B) (b : B) → (m >>= next) ≡ accepted b → (a : A) × (m ≡ accepted a) × (next a ≡ accepted b)
+bind-accepted (accepted a) next b e = (a, refl, e)
+bind-accepted (refused r) next b e = never (cc e)
+
+pub ensure-accepted : {B : Type 0} (t : Bool) (r : Refusal) (next : Result B) (b : B) → (ensure t r >> next) ≡ accepted b → (t ≡ true) × (next ≡ accepted b)
+ensure-accepted true r next b e = (refl, e)
+ensure-accepted false r next b e = never (cc e)
+
+pub given-accepted : {A : Type 0} (o : Option A) (r : Refusal) (a : A) → given o r ≡ accepted a → o ≡ some a
+given-accepted (some b) r a e = let z : b ≡ a = cc e in rw z
+given-accepted none r a e = never (cc e)
+
+-- two steps as one
+pub bind-through : {A B C : Type 0} (f : A → Result B) (g : B → Result C) (h : A → Result C) → ((a : A) → h a ≡ (f a >>= g)) → (m : Result A) → (m >>= h) ≡ (m >>= f >>= g)
+bind-through f g h p (accepted a) = p a
+bind-through f g h p (refused r) = refl

@@ -5,3 +5,6 @@ pub mod TokenLaws
 pub mod NumberLaws
 pub mod NameLaws
 pub mod ReadingLaws
+pub mod AppendLaws
+pub mod SeenLaws
+pub mod RefusesReadingLaws

@@ -10,11 +10,12 @@ use lib.ListN.{length, getD, take, drop, length-take, length-drop, drop-of-lengt
 use lib.Dec.{eqb}
 use lib.Seq.{drop-cons, drop-drop}
 use Rattle.refusal.specs.Lists.{every}
+use Rattle.refusal.proofs.ResultLaws.{never}
 use Rattle.text.specs.Bytes.{run, isLineFeed, isSpace, isAllowed}
 use Rattle.text.specs.Lines.{TextLine, lineEnd, lineOf, linesFrom, tokensFrom, arguments, leads}
 use Rattle.text.specs.declared.Class.the-variants.{Until, Space, Allowed}
 use Rattle.text.specs.Scan.{isOf, past}
-use Rattle.text.proofs.RunLaws.{past-ge, run-part, scan-place, scan-all, scan-not}
+use Rattle.text.proofs.RunLaws.{past-ge, run-part, every-end, scan-place, scan-all, scan-not}
 
 abbrev inLine : ℕ → Bool
 inLine b = not (isLineFeed b)
@@ -35,7 +36,7 @@ lines-later (b ∷ s) at = go (isLineFeed b) refl (lines-later s (at + 1))
     go true e ih = rw e
     go false e ih = rw e (ih ∙ rw shift)
 
-lines-cons : (s : List ℕ) (at : ℕ) → 0 < length s → linesFrom true at s ≡ lineOf at s ∷ later at s
+pub lines-cons : (s : List ℕ) (at : ℕ) → 0 < length s → linesFrom true at s ≡ lineOf at s ∷ later at s
 unfolding linesFrom
 lines-cons [] at h = absurd (omega arith)
 lines-cons (b ∷ s) at h = ap (λ (l : List TextLine). lineOf at (b ∷ s) ∷ l) (lines-later (b ∷ s) at)
@@ -101,6 +102,13 @@ module _ (line : List ℕ) (at m : ℕ) (h : at ≤ length line) where
     pub blank-not : m < length line → every isSpace (drop at line) ≡ false
     unfolding isOf
     blank-not = scan-not isSpace line at m h hm
+
+-- a line that is not blank has a byte
+pub not-at-end : (line : List ℕ) (at : ℕ) → every (isOf Space) (drop at line) ≡ false → at < length line
+not-at-end line at e = elim (decLt at (length line)) [
+  | yes h ↦ h
+  | no h ↦ never (cc (e, every-end (isOf Space) line at (omega arith)))
+]
 
 -- the letter that leads a line
 module _ (f : List ℕ) (at b : ℕ) where

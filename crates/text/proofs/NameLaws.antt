@@ -1,6 +1,6 @@
 -- Names, and whether two texts are the same bytes. Assumes nothing.
 use Prim.Native.Nat.{ℕ, suc, _+_, _-_, _≤_, _<_}
-use mathlib.Core.Path.{_≡_, refl, ap, sym, _∙_}
+use mathlib.Core.Path.{_≡_, refl, ap, sym, _∙_, ap₂}
 use mathlib.Core.List.{List, [], _∷_}
 use mathlib.Core.Bool.{Bool, true, false, _&&_}
 use native.Mathlib.Numerals.{add-one}
@@ -9,12 +9,12 @@ use native.Mathlib.Omega.{arith}
 use lib.Dec.{eqb}
 use lib.ListN.{length, getD, take, drop, length-take, length-drop, drop-of-length-le}
 use lib.Seq.{drop-cons, take-all, take-nil}
-use borrow.Author.Tests.{eq-eqb, ne-eqb}
+use borrow.Author.Tests.{eq-eqb, ne-eqb, eqb-true}
 use Rattle.refusal.specs.Lists.{every}
 use Rattle.refusal.proofs.ResultLaws.{never}
 use Rattle.text.specs.Bytes.{same, isLetter, isNameByte}
 use Rattle.text.specs.Spelling.{isName}
-use Rattle.refusal.proofs.BoolLaws.{and-false}
+use Rattle.refusal.proofs.BoolLaws.{and-false, and-true, fails}
 
 -- a name at a place of f
 module _ (f : List ℕ) (at : ℕ) where
@@ -84,3 +84,14 @@ module _ (f : List ℕ) (start len : ℕ) where
 
   pub part-short : length f - start < len → take len (drop start f) ≡ take (length f - start) (drop start f)
   part-short h = take-all len (drop start f) (omega (arith, length-drop start f)) ∙ sym (take-all (length f - start) (drop start f) (omega (arith, length-drop start f)))
+
+-- texts that are the same bytes are equal, and others are not the same
+pub same-true : (s t : List ℕ) → same s t ≡ true → s ≡ t
+unfolding same
+same-true [] [] e = refl
+same-true [] (b ∷ t) e = never (cc e)
+same-true (a ∷ s) [] e = never (cc e)
+same-true (a ∷ s) (b ∷ t) e = let p = and-true (eqb a b) (same s t) e in ap₂ _∷_ (eqb-true a b (p .0)) (same-true s t (p .1))
+
+pub same-false : (s t : List ℕ) → (s ≡ t → ⊥) → same s t ≡ false
+same-false s t h = fails (same s t) (λ e. h (same-true s t e))

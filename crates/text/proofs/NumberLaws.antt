@@ -1,7 +1,7 @@
 -- Decimal numbers and types, by what a reader finds of them. Assumes nothing.
 use Prim.Native.Nat.{ℕ, suc, _+_, _-_, _*_, _^_, _≤_, _<_}
 use mathlib.Core.Path.{_≡_, refl, sym, _∙_}
-use mathlib.Core.List.{List, [], _∷_}
+use mathlib.Core.List.{List, [], _∷_, _++_}
 use mathlib.Core.Bool.{Bool, true, false, not, cond, _&&_}
 use native.Mathlib.Numerals.{add-one}
 use native.Mathlib.Nat.{add-zero}
@@ -130,3 +130,9 @@ module _ (f : List ℕ) (at : ℕ) (h : at < length f) where
   pub type-read : getD f at 0 ≡ 105 → (z : Bool) → z ≡ leadingZero (drop (at + 1) f) → (n : Number) → n ≡ numberOf 2 (drop (at + 1) f) → typeFrom z n ≡ typeOf (drop at f)
   unfolding typeOf isType numberOf
   type-read k z hz n hn = rw (hz, hn, drop-cons f at 0 h, eq-eqb _ _ k, add-one) (type-split (decimal (drop (suc at) f)) (isNumeral 2 (drop (suc at) f)) (leadingZero (drop (suc at) f)) (ltb (decimal (drop (suc at) f)) (2 ^ 64)) (big-width (decimal (drop (suc at) f))))
+
+-- the number that digits make, of a front and what stands behind it
+pub decimal-append : (s t : List ℕ) (n : ℕ) → decimalFrom n (s ++ t) ≡ decimalFrom (decimalFrom n s) t
+unfolding decimalFrom
+decimal-append [] t n = refl
+decimal-append (b ∷ s) t n = decimal-append s t _

@@ -1,16 +1,26 @@
--- What holds of all that reading accepts. Assumes nothing.
-use Prim.Native.Nat.{ℕ}
+-- Reading line by line: what holds of all that is accepted, and the turn of a loop over the lines. Assumes nothing.
+use Prim.Native.Nat.{ℕ, _+_, _≤_, _<_, min}
+use mathlib.Core.Path.{_≡_, refl}
+use mathlib.Core.Bool.{true, false}
 use mathlib.Core.List.{List, [], _∷_}
+use native.Mathlib.Omega.{arith}
 use lib.Dec.{leb}
-use lib.ListN.{length}
+use lib.ListN.{length, take, drop}
+use borrow.Author.Tests.{le-leb, lt-leb}
 use Rattle.edition.specs.Edition.{maxFileBytes}
+use Rattle.refusal.specs.declared.Refusal.{Refusal}
 use Rattle.refusal.specs.declared.Subject.{Subject}
 use Rattle.refusal.specs.Lists.{every}
-use Rattle.refusal.specs.Result.{Result, _>>=_, _>>_}
+use Rattle.refusal.specs.Numbers.{fileTooLong, byteNotAllowed}
+use Rattle.refusal.specs.Result.{Result, accepted, refused, refusal, _>>=_, _>>_}
 use Rattle.refusal.proofs.ResultLaws.{Yields, yields-accepted, yields-refused, yields-cond, yields-bind, yields-ensure}
+use Rattle.text.specs.declared.Class.the-variants.{Until, Space, Allowed}
 use Rattle.text.specs.Bytes.{isSpace, isAllowed}
-use Rattle.text.specs.Lines.{TextLine, lines, Token}
+use Rattle.text.specs.Lines.{TextLine, linesFrom, lines, Token}
 use Rattle.text.specs.Reading.{nextToken, noMoreTokens, readAnyLine, readLines, readText}
+use Rattle.text.specs.Scan.{isOf, past}
+use Rattle.text.proofs.RunLaws.{scan-bounds}
+use Rattle.text.proofs.LineLaws.{lines-turn, lines-end, allowed-all, allowed-not, allowed-place}
 
 module _ {B : Type 0} {Q : B → Type 0} (file : Subject) where
   -- a token, then the next step
@@ -37,3 +47,60 @@ module _ {State : Type 0} {P : State → Type 0} (file : Subject) (readLine : St
   pub keeps-text : (s : State) (bytes : List ℕ) → P s → Yields P (readText file readLine s bytes)
   unfolding readText
   keeps-text s bytes h = yields-ensure (leb (length bytes) maxFileBytes) _ λ _. keeps-lines s (lines bytes) h
+
+-- the line from `at` to the end of a text
+abbrev lineAt : List ℕ → ℕ → ℕ → TextLine
+lineAt text at next = record { start = at; bytes = drop at text; next = next }
+
+module _ {State : Type 0} (file : Subject) (readLine : State → TextLine → Result State) where
+  -- ---- any line, whose first byte that is not allowed a scan finds at `bad`
+  module _ (s : State) (text : List ℕ) (at bad next : ℕ) (h : at ≤ length text) (found : bad ≡ past (isOf Allowed) text at) where
+    pub any-bad : bad < length text → refused (refusal file byteNotAllowed bad) ≡ readAnyLine file readLine s (lineAt text at next)
+    unfolding readAnyLine
+    any-bad l = rw (allowed-not text at bad h found l, allowed-place text at bad h found)
+
+    module _ (l : length text ≤ bad) where
+      allowed : every isAllowed (drop at text) ≡ true
+      allowed = allowed-all text at bad h found (omega (arith, scan-bounds (isOf Allowed) text at bad h found))
+
+      pub any-blank : every (isOf Space) (drop at text) ≡ true → accepted s ≡ readAnyLine file readLine s (lineAt text at next)
+      unfolding readAnyLine isOf
+      any-blank b = rw (allowed, b)
+
+      pub any-line : every (isOf Space) (drop at text) ≡ false → readLine s (lineAt text at next) ≡ readAnyLine file readLine s (lineAt text at next)
+      unfolding readAnyLine isOf
+      any-line b = rw (allowed, b)
+
+  -- ---- the loop: what is left to read, from the state that is reached, is what there was to read
+  module _ (start : State) (bytes : List ℕ) where
+    pub record Reading (s : State) (i : ℕ) : Type 0 where
+      pub within : i ≤ length bytes
+      pub rest : readLines file readLine s (linesFrom true i (drop i bytes)) ≡ readLines file readLine start (lines bytes)
+
+    pub reading-starts : Reading start 0
+    reading-starts = record { within = omega arith; rest = refl }
+
+    module _ {s : State} {i : ℕ} (inv : Reading s i) where
+      pub reading-ends : length bytes ≤ i → accepted s ≡ readLines file readLine start (lines bytes)
+      unfolding readLines
+      reading-ends h = rw (lines-end bytes i h) at (inv .rest)
+
+      -- the line at i ends at `stop`, and the next starts at `next`
+      module _ (stop next : ℕ) (h : i < length bytes) (hs : stop ≡ past (isOf (Until 10)) bytes i) (hn : next ≡ min (stop + 1) (length bytes)) where
+        pub reading-stops : (r : Refusal) → refused r ≡ readAnyLine file readLine s (lineAt (take stop bytes) i next) → refused r ≡ readLines file readLine start (lines bytes)
+        unfolding readLines
+        reading-stops r e = rw (← e) at (rw (lines-turn bytes i stop next h hs hn) at (inv .rest))
+
+        pub reading-goes : (t : State) → accepted t ≡ readAnyLine file readLine s (lineAt (take stop bytes) i next) → Reading t next
+        unfolding readLines
+        reading-goes t e = record { within = omega arith; rest = rw (← e) at (rw (lines-turn bytes i stop next h hs hn) at (inv .rest)) }
+
+  -- ---- the whole text
+  module _ (s : State) (bytes : List ℕ) where
+    pub text-long : maxFileBytes < length bytes → refused (refusal file fileTooLong maxFileBytes) ≡ readText file readLine s bytes
+    unfolding readText
+    text-long h = rw (lt-leb (length bytes) maxFileBytes h)
+
+    pub text-lines : length bytes ≤ maxFileBytes → readLines file readLine s (lines bytes) ≡ readText file readLine s bytes
+    unfolding readText
+    text-lines h = rw (le-leb (length bytes) maxFileBytes h)

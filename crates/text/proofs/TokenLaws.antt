@@ -1,18 +1,22 @@
 -- A line's tokens: the turn of a loop over them, and the parts of a token before and behind a byte. Assumes nothing.
 use Prim.Native.Nat.{ℕ, suc, _+_, _≤_, _<_}
 use mathlib.Core.Path.{_≡_, refl, ap, _∙_}
-use mathlib.Core.List.{List, [], _∷_}
+use mathlib.Core.List.{List, [], _∷_, _++_}
 use mathlib.Core.Bool.{Bool, true, false, not}
 use native.Mathlib.Nat.{add-zero}
 use native.Mathlib.Omega.{arith}
-use lib.ListN.{length, getD, take, drop, drop-of-length-le}
-use lib.Seq.{drop-cons, drop-drop}
+use lib.ListN.{length, getD, take, drop, drop-of-length-le, length-append}
+use lib.Seq.{drop-cons, drop-drop, drop-at}
 use Rattle.text.specs.Bytes.{run, isSpace}
 use Rattle.text.specs.Lines.{Token, tokenOf, tokensFrom}
 use Rattle.text.specs.Spelling.{upTo, behind}
 use Rattle.text.specs.declared.Class.the-variants.{Until, Space, Solid}
 use Rattle.text.specs.Scan.{isOf, past}
 use Rattle.text.proofs.RunLaws.{past-more, past-ge, past-le, past-fails, run-part, scan-bounds}
+use lib.Dec.{eqb}
+use borrow.Author.Tests.{eqb-true, eq-eqb}
+use Rattle.refusal.specs.Lists.{every}
+use Rattle.refusal.proofs.BoolLaws.{and-true}
 
 abbrev solid : ℕ → Bool
 solid b = not (isSpace b)
@@ -45,7 +49,7 @@ tokens-rest (b ∷ s) at = go (isSpace b) refl (tokens-rest s (at + 1))
     go false e ih = rw e (ih ∙ rw shift)
 
 -- from the start of one
-tokens-cons : (s : List ℕ) (at b : ℕ) → isSpace b ≡ false → tokensFrom true at (b ∷ s) ≡ tokenOf at (b ∷ s) ∷ later solid at (b ∷ s)
+pub tokens-cons : (s : List ℕ) (at b : ℕ) → isSpace b ≡ false → tokensFrom true at (b ∷ s) ≡ tokenOf at (b ∷ s) ∷ later solid at (b ∷ s)
 unfolding tokensFrom
 tokens-cons s at b e = rw e (ap (λ (l : List Token). tokenOf at (b ∷ s) ∷ l) (rw e at (tokens-rest (b ∷ s) at)))
 
@@ -101,3 +105,24 @@ module _ (f : List ℕ) (at c m : ℕ) (h : at ≤ length f) (hm : m ≡ past (i
   pub behind-it : behind c (drop at f) ≡ drop (m + 1) f
   unfolding behind upTo past isOf
   behind-it = let z : at + suc (length (upTo c (drop at f))) ≡ m + 1 = omega arith in drop-drop (suc (length (upTo c (drop at f)))) at f ∙ rw z
+
+-- a text with bytes behind its first byte c is the part in front of c, c, and the part behind it
+pub parts-join : (c : ℕ) (s : List ℕ) → 1 ≤ length (behind c s) → s ≡ upTo c s ++ (c ∷ []) ++ behind c s
+unfolding upTo behind run
+parts-join c [] h = absurd (omega arith)
+parts-join c (b ∷ s) h = go (eqb b c) refl (parts-join c s)
+  where
+    go : (t : Bool) → eqb b c ≡ t → (1 ≤ length (behind c s) → s ≡ upTo c s ++ (c ∷ []) ++ behind c s) → b ∷ s ≡ upTo c (b ∷ s) ++ (c ∷ []) ++ behind c (b ∷ s)
+    go true e ih = rw e (ap (λ (n : ℕ). n ∷ s) (eqb-true b c e))
+    go false e ih = rw e (ap (λ (l : List ℕ). b ∷ l) (ih (rw e at h)))
+
+-- those parts of a text that is made of them
+module _ (c : ℕ) (t : List ℕ) where
+  pub up-to-join : (s : List ℕ) → every (λ b. not (eqb b c)) s ≡ true → upTo c (s ++ (c ∷ []) ++ t) ≡ s
+  unfolding upTo run every
+  up-to-join [] e = rw (eq-eqb c c refl)
+  up-to-join (b ∷ s) e = let p = and-true (not (eqb b c)) (every (λ b. not (eqb b c)) s) e in rw (p .0) (ap (λ (l : List ℕ). b ∷ l) (up-to-join s (p .1)))
+
+  pub behind-join : (s : List ℕ) → every (λ b. not (eqb b c)) s ≡ true → behind c (s ++ (c ∷ []) ++ t) ≡ t
+  unfolding behind
+  behind-join s e = rw (up-to-join s e) (drop-at (s ++ (c ∷ [])) t (suc (length s)) (length-append s (c ∷ []) ∙ omega arith))

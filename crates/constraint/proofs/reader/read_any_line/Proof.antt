@@ -1,54 +1,71 @@
-use mathlib.Core.Path.{sym, _∙_}
-use Prim.Native.Nat.{_≤_}
+use Prim.Native.Nat.{ℕ, _≤_}
+use mathlib.Core.Path.{_≡_, sym, _∙_}
+use mathlib.Core.List.{List}
 use native.Mathlib.Omega.{arith}
 use lib.ListN.{length, take}
 use lib.Seq.{length-take-le}
-use Rattle.text.specs.declared.Class.the-variants.{Allowed}
-use Rattle.text.specs.Scan.{isOf}
-use Rattle.text.proofs.RunLaws.{scan-bounds}
-use Rattle.text.proofs.LineLaws.{allowed-all, allowed-not, allowed-place}
-use Rattle.constraint.specs.Answers.{held, fileHeld}
-use Rattle.constraint.proofs.ReaderLaws.{any-bad, any-blank, any-line, not-at-end}
 use borrow.Author.Needs.{needs}
+use Rattle.refusal.specs.declared.Subject.the-variants.{Constraint}
+use Rattle.text.proofs.LineLaws.{not-at-end}
+use Rattle.text.proofs.ReadingLaws.{any-bad, any-blank, any-line}
+use Rattle.constraint.specs.File.{File}
+use Rattle.constraint.specs.Answers.{held, fileHeld}
+use Rattle.constraint.specs.Read.{readLine}
 use Rattle.constraint.proofs.reader.read_any_line.Statement.{statement}
 use Rattle.constraint.proofs.reader.read_any_line.Tie as tie
 
+-- the file as it is held, and the line's text; how long that is
+abbrev before : tie.Start → File
+before s = fileHeld (s .args .file .now) (held (s .args .starts .now) (s .args .lens .now) (s .args .widths .now) (s .args .lines .now)) (s .args .p)
+
+abbrev text : tie.Start → List ℕ
+text s = take (s .args .stop) (s .args .file .now)
+
+long : (s : tie.Start) → length (text s) ≡ s .args .stop
+long s = length-take-le (s .args .stop) (s .args .file .now) (s .pre .1)
+
+starts-in : (s : tie.Start) → s .args .at ≤ length (text s)
+starts-in s = omega (arith, long s, s .pre .0)
+
 slice-aggregate-scan : tie.Need-slice-aggregate-scan
-slice-aggregate-scan c = sym (length-take-le (c .before .before .args .stop) (c .before .before .args .file .now) (c .before .before .pre .1))
+slice-aggregate-scan c = sym (long (c .before .before))
 
 scan-requires : tie.Need-scan-requires
-scan-requires c κs = omega (arith, length-take-le (c .before .before .args .stop) (c .before .before .args .file .now) (c .before .before .pre .1))
+scan-requires c κs = starts-in (c .before .before)
 
 refusal-requires : tie.Need-refusal-requires
 refusal-requires c κs = search needs
 
 returns : tie.Need-returns
 returns c =
-    let h : c .before .before .before .before .before .args .at ≤ length (take (c .before .before .before .before .before .args .stop) (c .before .before .before .before .before .args .file .now)) = omega (arith, length-take-le (c .before .before .before .before .before .args .stop) (c .before .before .before .before .before .args .file .now) (c .before .before .before .before .before .pre .1)) in
-    (λ next. rw (c .refusal .ensures) (any-bad (fileHeld (c .before .before .before .before .before .args .file .now) (held (c .before .before .before .before .before .args .starts .now) (c .before .before .before .before .before .args .lens .now) (c .before .before .before .before .before .args .widths .now) (c .before .before .before .before .before .args .lines .now)) (c .before .before .before .before .before .args .p)) (take (c .before .before .before .before .before .args .stop) (c .before .before .before .before .before .args .file .now)) (c .before .before .before .before .before .args .at) next (c .before .before .scan .result) (allowed-not (take (c .before .before .before .before .before .args .stop) (c .before .before .before .before .before .args .file .now)) (c .before .before .before .before .before .args .at) (c .before .before .scan .result) h (c .before .before .scan .ensures) (omega (arith, length-take-le (c .before .before .before .before .before .args .stop) (c .before .before .before .before .before .args .file .now) (c .before .before .before .before .before .pre .1)))) (allowed-place (take (c .before .before .before .before .before .args .stop) (c .before .before .before .before .before .args .file .now)) (c .before .before .before .before .before .args .at) (c .before .before .scan .result) h (c .before .before .scan .ensures))), c .before .before .before .before .before .pre .3, tt)
+    let m = c .before .before in
+    let s = m .before .before .before in
+    (λ next. rw (c .refusal .ensures) (any-bad Constraint readLine (before s) (text s) (s .args .at) (m .scan .result) next (starts-in s) (m .scan .ensures) (omega (arith, long s))), s .pre .3, tt)
 
 slice-aggregate-all : tie.Need-slice-aggregate-all
-slice-aggregate-all c = sym (length-take-le (c .before .before .before .before .before .args .stop) (c .before .before .before .before .before .args .file .now) (c .before .before .before .before .before .pre .1))
+slice-aggregate-all c = sym (long (c .before .before .before .before .before))
 
 all-requires : tie.Need-all-requires
-all-requires c κs = omega (arith, length-take-le (c .before .before .before .before .before .args .stop) (c .before .before .before .before .before .args .file .now) (c .before .before .before .before .before .pre .1))
+all-requires c κs = starts-in (c .before .before .before .before .before)
 
 returns-2 : tie.Need-returns-2
-unfolding isOf
 returns-2 c =
-    let h : c .before .before .before .before .before .before .before .args .at ≤ length (take (c .before .before .before .before .before .before .before .args .stop) (c .before .before .before .before .before .before .before .args .file .now)) = omega (arith, length-take-le (c .before .before .before .before .before .before .before .args .stop) (c .before .before .before .before .before .before .before .args .file .now) (c .before .before .before .before .before .before .before .pre .1)) in
-    (λ next. any-blank (fileHeld (c .before .before .before .before .before .before .before .args .file .now) (held (c .before .before .before .before .before .before .before .args .starts .now) (c .before .before .before .before .before .before .before .args .lens .now) (c .before .before .before .before .before .before .before .args .widths .now) (c .before .before .before .before .before .before .before .args .lines .now)) (c .before .before .before .before .before .before .before .args .p)) (take (c .before .before .before .before .before .before .before .args .stop) (c .before .before .before .before .before .before .before .args .file .now)) (c .before .before .before .before .before .before .before .args .at) next (allowed-all (take (c .before .before .before .before .before .before .before .args .stop) (c .before .before .before .before .before .before .before .args .file .now)) (c .before .before .before .before .before .before .before .args .at) (c .before .before .before .before .scan .result) h (c .before .before .before .before .scan .ensures) (omega (arith, length-take-le (c .before .before .before .before .before .before .before .args .stop) (c .before .before .before .before .before .before .before .args .file .now) (c .before .before .before .before .before .before .before .pre .1), scan-bounds (isOf Allowed) (take (c .before .before .before .before .before .before .before .args .stop) (c .before .before .before .before .before .before .before .args .file .now)) (c .before .before .before .before .before .before .before .args .at) (c .before .before .before .before .scan .result) h (c .before .before .before .before .scan .ensures)))) (sym (c .before .all .ensures) ∙ c .if2 .taken), c .before .before .before .before .before .before .before .pre .3, c .before .before .before .before .before .before .before .pre .2)
+    let m = c .before .before .before .before in
+    let s = m .before .before .before in
+    (λ next. any-blank Constraint readLine (before s) (text s) (s .args .at) (m .scan .result) next (starts-in s) (m .scan .ensures) (omega (arith, long s)) (sym (c .before .all .ensures) ∙ c .if2 .taken), s .pre .3, s .pre .2)
 
 read-line-requires : tie.Need-read-line-requires
-unfolding isOf
 read-line-requires c κs =
-    (omega (arith, length-take-le (c .before .before .before .before .before .before .before .before .before .before .before .args .stop) (c .before .before .before .before .before .before .before .before .before .before .before .args .file .now) (c .before .before .before .before .before .before .before .before .before .before .before .pre .1), not-at-end (take (c .before .before .before .before .before .before .before .before .before .before .before .args .stop) (c .before .before .before .before .before .before .before .before .before .before .before .args .file .now)) (c .before .before .before .before .before .before .before .before .before .before .before .args .at) (sym (c .before .before .before .before .before .all .ensures) ∙ c .before .before .before .before .if2 .left)), c .before .before .before .before .before .before .before .before .before .before .before .pre .1, c .before .before .before .before .before .before .before .before .before .before .before .pre .2, c .before .before .before .before .before .before .before .before .before .before .before .pre .3)
+    let b = c .before .before .before .before in
+    let s = b .before .before .before .before .before .before .before in
+    (omega (arith, long s, not-at-end (text s) (s .args .at) (sym (b .before .all .ensures) ∙ b .if2 .left)), s .pre .1, s .pre .2, s .pre .3)
 
 returns-3 : tie.Need-returns-3
-unfolding isOf
 returns-3 c =
-    let h : c .before .before .before .before .before .before .before .before .before .before .before .before .args .at ≤ length (take (c .before .before .before .before .before .before .before .before .before .before .before .before .args .stop) (c .before .before .before .before .before .before .before .before .before .before .before .before .args .file .now)) = omega (arith, length-take-le (c .before .before .before .before .before .before .before .before .before .before .before .before .args .stop) (c .before .before .before .before .before .before .before .before .before .before .before .before .args .file .now) (c .before .before .before .before .before .before .before .before .before .before .before .before .pre .1)) in
-    (λ next. c .read-line .ensures .0 next ∙ any-line (fileHeld (c .before .before .before .before .before .before .before .before .before .before .before .before .args .file .now) (held (c .before .before .before .before .before .before .before .before .before .before .before .before .args .starts .now) (c .before .before .before .before .before .before .before .before .before .before .before .before .args .lens .now) (c .before .before .before .before .before .before .before .before .before .before .before .before .args .widths .now) (c .before .before .before .before .before .before .before .before .before .before .before .before .args .lines .now)) (c .before .before .before .before .before .before .before .before .before .before .before .before .args .p)) (take (c .before .before .before .before .before .before .before .before .before .before .before .before .args .stop) (c .before .before .before .before .before .before .before .before .before .before .before .before .args .file .now)) (c .before .before .before .before .before .before .before .before .before .before .before .before .args .at) next (allowed-all (take (c .before .before .before .before .before .before .before .before .before .before .before .before .args .stop) (c .before .before .before .before .before .before .before .before .before .before .before .before .args .file .now)) (c .before .before .before .before .before .before .before .before .before .before .before .before .args .at) (c .before .before .before .before .before .before .before .before .before .scan .result) h (c .before .before .before .before .before .before .before .before .before .scan .ensures) (omega (arith, length-take-le (c .before .before .before .before .before .before .before .before .before .before .before .before .args .stop) (c .before .before .before .before .before .before .before .before .before .before .before .before .args .file .now) (c .before .before .before .before .before .before .before .before .before .before .before .before .pre .1), scan-bounds (isOf Allowed) (take (c .before .before .before .before .before .before .before .before .before .before .before .before .args .stop) (c .before .before .before .before .before .before .before .before .before .before .before .before .args .file .now)) (c .before .before .before .before .before .before .before .before .before .before .before .before .args .at) (c .before .before .before .before .before .before .before .before .before .scan .result) h (c .before .before .before .before .before .before .before .before .before .scan .ensures)))) (sym (c .before .before .before .before .before .before .all .ensures) ∙ c .before .before .before .before .before .if2 .left), c .read-line .ensures .1, c .read-line .ensures .2)
+    let b = c .before .before .before .before .before in
+    let m = b .before .before .before .before in
+    let s = m .before .before .before in
+    (λ next. c .read-line .ensures .0 next ∙ any-line Constraint readLine (before s) (text s) (s .args .at) (m .scan .result) next (starts-in s) (m .scan .ensures) (omega (arith, long s)) (sym (b .before .all .ensures) ∙ b .if2 .left), c .read-line .ensures .1, c .read-line .ensures .2)
 
 pub read-any-line-spec : {M : Type 1} → statement M
 read-any-line-spec =

@@ -1,0 +1,17 @@
+-- Laws that belong to no one function.
+pub mod RowLaws
+pub mod EntryLaws
+pub mod SolutionLaws
+pub mod SettingLaws
+pub mod ValueLaws
+pub mod ReaderLaws
+pub mod CallLaws
+pub mod NamedLaws
+pub mod SettingTokenLaws
+pub mod SettingsListLaws
+pub mod SolutionLineLaws
+pub mod LineKindLaws
+pub mod AcceptedLinesLaws
+pub mod OnceLaws
+pub mod AcceptsLaws
+pub mod FitLaws

@@ -1,0 +1,76 @@
+use Prim.Native.Nat.{_^_}
+use mathlib.Core.Path.{_≡_, sym, ap, _∙_}
+use mathlib.Core.List.{List}
+use lib.Dec.{ltb}
+use borrow.Author.Needs.{needs}
+use Rattle.operator.specs.Rules.{fits}
+use Rattle.constraint.specs.File.{Variable, widthAt}
+use Rattle.constraint.specs.Tables.{variablesIn}
+use Rattle.constraint.specs.Answers.{place}
+use Rattle.constraint.proofs.LookupLaws.{variables-length}
+use Rattle.constraint.proofs.TypingLaws.{width-is}
+use Rattle.answer.proofs.SettingLaws.{found-below, named-long, named-unknown, named-set, named-unfit}
+use Rattle.answer.proofs.settings.setting_of.Statement.{statement}
+use Rattle.answer.proofs.settings.setting_of.Tie as tie
+
+abbrev variables : tie.Start → List Variable
+variables s = variablesIn (s .args .file .now) (s .args .starts .now) (s .args .lens .now) (s .args .widths .now) (s .args .n)
+
+-- whether the value fits the variable that was found
+fit : (c : tie.After-fits2) → let s = c .before .before .before .before .before .before .before .before .before in c .fits2 .result ≡ ltb (s .args .v) (2 ^ widthAt (variables s) (c .before .before .before .i .given .0 .0))
+unfolding fits
+fit c =
+    let a = c .before .before .before .before .before .before .before .before .before .args in
+    c .fits2 .ensures ∙ rw (c .before .width-of .ensures, width-is (a .file .now) (a .starts .now) (a .lens .now) (a .widths .now) (a .n) (c .before .before .before .i .given .0 .0))
+
+sub-if1 : tie.Need-sub-if1
+sub-if1 c = search needs
+
+returns : tie.Need-returns
+returns c = let a = c .before .before .before .args in (named-long (variables (c .before .before .before)) (a .text .now) (a .at) (a .v) (c .if1 .taken), tt)
+
+lookup-requires : tie.Need-lookup-requires
+lookup-requires c κs = search needs
+
+enum-told : tie.Need-enum-told
+enum-told c = search needs
+
+enum-known-i : tie.Need-enum-known-i
+enum-known-i c = search needs
+
+width-of-requires : tie.Need-width-of-requires
+width-of-requires c κs = search needs
+
+fits-requires : tie.Need-fits-requires
+fits-requires c κs = search needs
+
+returns-2 : tie.Need-returns-2
+returns-2 c = let a = c .before .before .before .before .before .before .args in (named-unknown (variables (c .before .before .before .before .before .before)) (a .text .now) (a .at) (a .v) (c .before .before .before .if1 .left) (sym (ap place (c .enum-told .given .1)) ∙ c .before .before .lookup .ensures (a .widths .now)), tt)
+
+returns-3 : tie.Need-returns-3
+returns-3 c =
+    let a = c .before .before .before .before .before .before .before .before .before .before .args in
+    let i = c .before .before .before .before .i .given in
+    let e = sym (ap place (i .1)) ∙ c .before .before .before .before .before .before .lookup .ensures (a .widths .now) in
+    (named-set (variables (c .before .before .before .before .before .before .before .before .before .before)) (a .text .now) (a .at) (a .v) (c .before .before .before .before .before .before .before .if1 .left) (i .0 .0) e (sym (fit (c .before)) ∙ c .if2 .taken), found-below _ (variables (c .before .before .before .before .before .before .before .before .before .before)) (i .0 .0) (a .n) (variables-length (a .file .now) (a .starts .now) (a .lens .now) (a .widths .now) (a .n)) e)
+
+returns-4 : tie.Need-returns-4
+returns-4 c =
+    let a = c .before .before .before .before .before .before .before .before .before .before .args in
+    let i = c .before .before .before .before .i .given in
+    (named-unfit (variables (c .before .before .before .before .before .before .before .before .before .before)) (a .text .now) (a .at) (a .v) (c .before .before .before .before .before .before .before .if1 .left) (i .0 .0) (sym (ap place (i .1)) ∙ c .before .before .before .before .before .before .lookup .ensures (a .widths .now)) (sym (fit (c .before)) ∙ c .if2 .left), tt)
+
+pub setting-of-spec : {M : Type 1} → statement M
+setting-of-spec =
+    tie.close
+    (tie.spec
+    sub-if1
+    returns
+    lookup-requires
+    enum-told
+    enum-known-i
+    width-of-requires
+    fits-requires
+    returns-2
+    returns-3
+    returns-4)

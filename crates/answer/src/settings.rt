@@ -1,0 +1,156 @@
+// The `v` lines.
+use super::Setting;
+use super::Step;
+use super::solutions::refusal;
+use constraint::Found;
+use constraint::names::lookup;
+use constraint::typing::width_of;
+use edition::Edition;
+use operator::Word;
+use operator::rules::fits;
+use refusal::Refusal;
+use text::Class;
+use text::Next;
+use text::Number;
+use text::numbers::number_behind;
+use text::scan::is_name;
+use text::scan::next_token;
+use text::scan::scan;
+ghost use mathlib.Core.Path.{_≡_};
+ghost use mathlib.Core.Bool.{true};
+ghost use Prim.Native.Nat.{ℕ, _<_, _≤_};
+ghost use lib.ListN.{length, drop};
+ghost use Rattle.edition.specs.Edition.{maxVariables};
+ghost use Rattle.text.specs.Lines.{tokensFrom};
+ghost use Rattle.constraint.specs.Tables.{variablesIn};
+ghost use Rattle.constraint.specs.Answers.{tokenAt, lineAt};
+ghost use Rattle.answer.specs.Read.{settings, settingOf, readSettings, readValues};
+ghost use Rattle.answer.specs.Answers.{settingResult, settingNamed, SettingIn, entriesIn, Whole, stepResult, settingsResult};
+
+// The digits of a value, at most.
+const MAX_DIGITS: usize = 20;
+
+// The setting of the variable named from `at` to the end of the text, to the value v.
+fn setting_of<'a>(
+    file: &[u8],
+    starts: &'a [usize; Edition::VARIABLES],
+    lens: &'a [usize; Edition::VARIABLES],
+    widths: &'a [u64; Edition::VARIABLES],
+    n: usize,
+    text: &[u8],
+    at: usize,
+    v: u64,
+) -> Setting
+    requires { ⌜ (at ≤ length (now text)) × (n ≤ maxVariables) ⌝ }
+    ensures { λ r. ⌜ (r ≡ settingNamed (variablesIn (now (file .entry)) (now (starts .entry)) (now (lens .entry)) (now (widths .entry)) n) (drop at (now (text .entry))) v) × SettingIn n r ⌝ }
+{
+    if Edition::NAME_BYTES < text.len() - at {
+        return Setting::Faulty(Refusal::OVER_LIMIT);
+    }
+    match lookup(file, starts, lens, n, text, at) {
+        Found::Nowhere => Setting::Faulty(Refusal::NOT_DECLARED),
+        Found::At(i) => if fits(Word {
+            width: width_of(widths, n, i),
+            value: v,
+        }) {
+            Setting::Set(i, v)
+        } else {
+            Setting::Faulty(Refusal::VALUE_DOES_NOT_FIT)
+        },
+    }
+}
+
+// The setting from `at` to the end of the text.
+fn setting<'a>(
+    file: &[u8],
+    starts: &'a [usize; Edition::VARIABLES],
+    lens: &'a [usize; Edition::VARIABLES],
+    widths: &'a [u64; Edition::VARIABLES],
+    n: usize,
+    text: &[u8],
+    at: usize,
+) -> Setting
+    requires { ⌜ (at ≤ length (now text)) × (n ≤ maxVariables) ⌝ }
+    ensures { λ r. ⌜ (settingResult (tokenAt (now (text .entry)) at) r ≡ settingOf (variablesIn (now (file .entry)) (now (starts .entry)) (now (lens .entry)) (now (widths .entry)) n) (tokenAt (now (text .entry)) at)) × SettingIn n r ⌝ }
+{
+    let equals = scan(text, at, Class::Until(b'='));
+    let number = number_behind(text, equals, MAX_DIGITS);
+    if is_name(&text[..equals], at) {
+        match number {
+            Number::Misspelt => Setting::Faulty(Refusal::MISSPELT),
+            Number::TooBig => Setting::Faulty(Refusal::NUMBER_TOO_LARGE),
+            Number::Value(v) => setting_of(file, starts, lens, widths, n, &text[..equals], at, v),
+        }
+    } else {
+        Setting::Faulty(Refusal::MISSPELT)
+    }
+}
+
+// Stores the settings of the line that stops at `stop`, from `at` on.
+fn set_all<'a>(
+    file: &[u8],
+    starts: &'a [usize; Edition::VARIABLES],
+    lens: &'a [usize; Edition::VARIABLES],
+    widths: &'a [u64; Edition::VARIABLES],
+    n: usize,
+    line: &[u8],
+    at: usize,
+    flags: &mut [u8; Edition::VARIABLES],
+    values: &mut [u64; Edition::VARIABLES],
+) -> Step
+    requires { ⌜ (at ≤ length (now line)) × (n ≤ maxVariables) × Whole (now flags) (now values) ⌝ }
+    ensures { λ r. ⌜ (settingsResult (entriesIn (now (flags .exit)) (now (values .exit)) n) r ≡ readSettings (variablesIn (now (file .entry)) (now (starts .entry)) (now (lens .entry)) (now (widths .entry)) n) (entriesIn (now (flags .entry)) (now (values .entry)) n) (tokensFrom true at (drop at (now (line .entry))))) × Whole (now (flags .exit)) (now (values .exit)) ⌝ }
+{
+    let mut i = at;
+    while i < line.len() {
+        match next_token(line, i) {
+            Next::Nothing => {
+                return Step::Next(true);
+            }
+            Next::Found(t) => {
+                let start = t.start;
+                let stop = t.stop;
+                match setting(file, starts, lens, widths, n, &line[..stop], start) {
+                    Setting::Faulty(number) => {
+                        return Step::Stop(refusal(number, start));
+                    }
+                    Setting::Set(k, v) => {
+                        if flags[k] != 0 {
+                            return Step::Stop(refusal(Refusal::SET_TWICE, start));
+                        }
+                        flags[k] = 1;
+                        values[k] = v;
+                    }
+                }
+                i = stop;
+            }
+        }
+    }
+    Step::Next(true)
+}
+
+// The `v` line from `at` to the end.
+pub(crate) fn value_line<'a>(
+    file: &[u8],
+    starts: &'a [usize; Edition::VARIABLES],
+    lens: &'a [usize; Edition::VARIABLES],
+    widths: &'a [u64; Edition::VARIABLES],
+    n: usize,
+    line: &[u8],
+    at: usize,
+    flags: &mut [u8; Edition::VARIABLES],
+    values: &mut [u64; Edition::VARIABLES],
+    solved: bool,
+) -> Step
+    requires { ⌜ (at < length (now line)) × (n ≤ maxVariables) × Whole (now flags) (now values) ⌝ }
+    ensures { λ r. ⌜ ((next : ℕ) → stepResult (entriesIn (now (flags .exit)) (now (values .exit)) n) r ≡ readValues (variablesIn (now (file .entry)) (now (starts .entry)) (now (lens .entry)) (now (widths .entry)) n) (settings solved (entriesIn (now (flags .entry)) (now (values .entry)) n)) (lineAt (now (line .entry)) at next)) × Whole (now (flags .exit)) (now (values .exit)) ⌝ }
+{
+    if !solved {
+        return Step::Stop(refusal(Refusal::MISPLACED_LINE, at));
+    }
+    let next = at + 1;
+    match set_all(file, starts, lens, widths, n, line, next, flags, values) {
+        Step::Next(_) => Step::Next(true),
+        Step::Stop(r) => Step::Stop(r),
+    }
+}

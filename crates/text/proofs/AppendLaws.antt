@@ -1,0 +1,57 @@
+-- Texts that are put together: where the run, the line or the token in front ends. Assumes nothing.
+use Prim.Native.Nat.{ℕ, suc, _+_, _<_}
+use mathlib.Core.Path.{_≡_, refl, ap, _∙_}
+use mathlib.Core.List.{List, [], _∷_, _++_}
+use mathlib.Core.Bool.{Bool, true, not}
+use native.Mathlib.Numerals.{add-one}
+use native.Mathlib.Omega.{arith}
+use lib.ListN.{length, take, drop, length-append, length-take}
+use lib.Seq.{drop-append-seam, drop-append-add}
+use borrow.Author.Tests.{not-true}
+use Rattle.refusal.specs.Lists.{every}
+use Rattle.refusal.proofs.BoolLaws.{and-true}
+use Rattle.text.specs.Bytes.{run, isSpace, isLineFeed}
+use Rattle.text.specs.Lines.{lineOf, linesFrom, tokenOf, tokensFrom}
+use Rattle.text.proofs.LineLaws.{lines-cons}
+use Rattle.text.proofs.TokenLaws.{tokens-cons}
+
+-- the run of a text that passes, where it does not go on in what stands behind
+pub run-front : (p : ℕ → Bool) (s t : List ℕ) → every p s ≡ true → run p t ≡ [] → run p (s ++ t) ≡ s
+unfolding every run
+run-front p [] t h e = e
+run-front p (b ∷ s) t h e = let q = and-true (p b) (every p s) h in rw (q .0) (ap (λ (l : List ℕ). b ∷ l) (run-front p s t (q .1) e))
+
+-- what stands behind one element more than a text
+drop-behind : (s t : List ℕ) (c : ℕ) → drop (suc (length s)) (s ++ c ∷ t) ≡ t
+drop-behind s t c = rw (← add-one (length s)) (drop-append-add s (c ∷ t) 1)
+
+-- no bytes, no line
+pub lines-none : (at : ℕ) → linesFrom true at [] ≡ []
+unfolding linesFrom
+lines-none at = refl
+
+-- the line of a text without LF that LF ends, and the lines behind it
+pub lines-front : (a b : List ℕ) (at : ℕ) → every (λ c. not (isLineFeed c)) a ≡ true → linesFrom true at (a ++ 10 ∷ b) ≡ record { start = at; bytes = a; next = at + suc (length a) } ∷ linesFrom true (at + suc (length a)) b
+unfolding lineOf run isLineFeed
+lines-front a b at h =
+    let r = run-front (λ c. not (isLineFeed c)) a (10 ∷ b) h refl in
+    let l : length (take (suc (length a)) (a ++ 10 ∷ b)) ≡ suc (length a) = omega (arith, length-take (suc (length a)) (a ++ 10 ∷ b), length-append a (10 ∷ b)) in
+    lines-cons (a ++ 10 ∷ b) at (omega (arith, length-append a (10 ∷ b))) ∙ rw (r, l, drop-behind a b 10)
+
+-- no bytes, no token
+pub tokens-none : (at : ℕ) → tokensFrom true at [] ≡ []
+unfolding tokensFrom
+tokens-none at = refl
+
+-- the tokens behind white space
+pub tokens-space : (s : List ℕ) (at b : ℕ) → isSpace b ≡ true → tokensFrom true at (b ∷ s) ≡ tokensFrom true (at + 1) s
+unfolding tokensFrom
+tokens-space s at b e = rw e
+
+-- the token of a text without white space, where it does not go on in what stands behind, and the tokens behind it
+pub tokens-front : (t rest : List ℕ) (at : ℕ) → 0 < length t → every (λ b. not (isSpace b)) t ≡ true → run (λ b. not (isSpace b)) rest ≡ [] → tokensFrom true at (t ++ rest) ≡ record { start = at; bytes = t } ∷ tokensFrom true (at + length t) rest
+unfolding every tokenOf
+tokens-front [] rest at h k e = absurd (omega arith)
+tokens-front (b ∷ t) rest at h k e =
+    let s = not-true (isSpace b) (and-true (not (isSpace b)) (every (λ c. not (isSpace c)) t) k .0) in
+    tokens-cons (t ++ rest) at b s ∙ rw (run-front (λ c. not (isSpace c)) (b ∷ t) rest k e, drop-append-seam (b ∷ t) rest)

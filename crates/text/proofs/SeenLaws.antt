@@ -1,0 +1,66 @@
+-- Bytes that are seen: those of names and numbers are, and a name has no `=`. Assumes nothing.
+use Prim.Native.Nat.{ℕ, _≤_}
+use mathlib.Core.Path.{_≡_, refl}
+use mathlib.Core.List.{List, [], _∷_}
+use mathlib.Core.Bool.{Bool, true, not}
+use native.Mathlib.Omega.{arith}
+use lib.Dec.{eqb, leb}
+use borrow.Author.Tests.{le-leb, leb-true, eqb-true, ne-eqb}
+use Rattle.refusal.specs.Lists.{every}
+use Rattle.refusal.proofs.BoolLaws.{and-true, either}
+use Rattle.text.specs.Bytes.{within, isSpace, isLineFeed, isAllowed, isDigit, isLetter, isNameByte}
+use Rattle.text.specs.Spelling.{isName}
+use Rattle.refusal.proofs.ListLaws.{every-weaken}
+
+-- a byte that is seen: it is allowed, and it is neither white space nor LF
+unfoldable pub isSeen : ℕ → Bool
+isSeen = within 33 126
+
+-- the bounds of a byte from a to z
+bounds : (a z b : ℕ) → within a z b ≡ true → (a ≤ b) × (b ≤ z)
+bounds a z b e = let q = and-true (leb a b) (leb b z) e in (leb-true a b (q .0), leb-true b z (q .1))
+
+-- what a byte is that is seen
+pub seen-allowed : (b : ℕ) → isSeen b ≡ true → isAllowed b ≡ true
+unfolding isSeen isAllowed
+seen-allowed b e = let q = bounds 33 126 b e in rw (ne-eqb b 9 (omega arith), le-leb 32 b (omega arith), le-leb b 126 (q .1))
+
+pub seen-solid : (b : ℕ) → isSeen b ≡ true → not (isSpace b) ≡ true
+unfolding isSeen isSpace
+seen-solid b e = let q = bounds 33 126 b e in rw (ne-eqb b 32 (omega arith), ne-eqb b 9 (omega arith))
+
+pub seen-in-line : (b : ℕ) → isSeen b ≡ true → not (isLineFeed b) ≡ true
+unfolding isSeen isLineFeed
+seen-in-line b e = let q = bounds 33 126 b e in rw (ne-eqb b 10 (omega arith))
+
+-- digits are seen
+digit-seen : (b : ℕ) → isDigit b ≡ true → isSeen b ≡ true
+unfolding isSeen isDigit
+digit-seen b e = let q = bounds 48 57 b e in rw (le-leb 33 b (omega arith), le-leb b 126 (omega arith))
+
+pub numeral-seen : (s : List ℕ) → every isDigit s ≡ true → every isSeen s ≡ true
+numeral-seen = every-weaken isDigit isSeen digit-seen
+
+-- a byte of a name is seen, and is not `=`
+name-byte : (b : ℕ) → isNameByte b ≡ true → (33 ≤ b) × (b ≤ 126) × (b ≡ 61 → ⊥)
+unfolding isNameByte isLetter isDigit
+name-byte b = either _ _ (either _ _ (either _ _ (λ e. let q = bounds 97 122 b e in omega arith) (λ e. let q = bounds 65 90 b e in omega arith)) (λ e. let q = bounds 48 57 b e in omega arith)) (λ e. let q = eqb-true b 95 e in omega arith)
+
+byte-seen : (b : ℕ) → isNameByte b ≡ true → isSeen b ≡ true
+unfolding isSeen
+byte-seen b e = let q = name-byte b e in rw (le-leb 33 b (q .0), le-leb b 126 (q .1))
+
+byte-other : (b : ℕ) → isNameByte b ≡ true → not (eqb b 61) ≡ true
+byte-other b e = rw (ne-eqb b 61 (name-byte b e .2))
+
+-- and so are all bytes of a name
+name-bytes : (s : List ℕ) → isName s ≡ true → every isNameByte s ≡ true
+unfolding isName every isNameByte
+name-bytes [] e = refl
+name-bytes (b ∷ s) e = let q = and-true (isLetter b) (every isNameByte s) e in rw (q .0) (q .1)
+
+pub name-seen : (s : List ℕ) → isName s ≡ true → every isSeen s ≡ true
+name-seen s e = every-weaken isNameByte isSeen byte-seen s (name-bytes s e)
+
+pub name-plain : (s : List ℕ) → isName s ≡ true → every (λ b. not (eqb b 61)) s ≡ true
+name-plain s e = every-weaken isNameByte (λ b. not (eqb b 61)) byte-other s (name-bytes s e)

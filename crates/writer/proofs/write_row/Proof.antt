@@ -1,0 +1,36 @@
+use native.Mathlib.Omega.{arith}
+use borrow.Author.Needs.{needs}
+use Rattle.writer.proofs.OutcomeLaws.{answer-refused, answer-written}
+use Rattle.writer.proofs.write_row.Statement.{statement}
+use Rattle.writer.proofs.write_row.Tie as tie
+
+answer-length-requires : tie.Need-answer-length-requires
+answer-length-requires c κs = search needs
+
+refused-requires : tie.Need-refused-requires
+refused-requires c κs = search needs
+
+returns : tie.Need-returns
+returns c = λ widths. answer-refused _ _ _ (c .before .before .answer-length .ensures widths) (c .before .if1 .taken) (c .refused .ensures)
+
+put-answer-requires : tie.Need-put-answer-requires
+put-answer-requires c κs =
+    let s = c .before .before .before .before .before .before in
+    (s .pre .1, s .pre .2, λ widths. omega (arith, c .before .before .answer-length .ensures widths))
+
+same-length : tie.Need-same-length
+same-length c = search needs
+
+returns-2 : tie.Need-returns-2
+returns-2 c = λ widths. answer-written _ _ _ (c .before .before .before .before .before .answer-length .ensures widths) (c .before .before .before .before .if1 .left) (c .before .before .put-answer .ensures widths)
+
+pub write-row-spec : {M : Type 1} → statement M
+write-row-spec =
+    tie.close
+    (tie.spec
+    answer-length-requires
+    refused-requires
+    returns
+    put-answer-requires
+    same-length
+    returns-2)

@@ -1,0 +1,164 @@
+// The text of an answer, put into a room, and its length.
+use super::printing::digit_count;
+use super::printing::put_byte;
+use super::printing::put_bytes;
+use super::printing::put_digits;
+use answer::words::satisfiable;
+use edition::Edition;
+use text::Span;
+ghost use mathlib.Core.Path.{_≡_};
+ghost use mathlib.Core.List.{List};
+ghost use Prim.Native.Nat.{ℕ, _+_, _≤_};
+ghost use lib.ListN.{length, take, drop};
+ghost use Rattle.edition.specs.Edition.{maxVariables, maxFileBytes};
+ghost use Rattle.constraint.specs.Tables.{variablesIn};
+ghost use Rattle.writer.specs.Text.{setting, settings, valuesLine, answerText};
+ghost use Rattle.writer.specs.Places.{Put, Part, maxSettingsLength};
+
+// As many of the `len` bytes at `start` as the file has.
+fn part(file: &[u8], start: usize, len: usize) -> Span
+    ensures { λ r. ⌜ Part (now (file .entry)) (take len (drop start (now (file .entry)))) r ⌝ }
+{
+    if file.len() < start {
+        return Span { start: 0, stop: 0 };
+    }
+    if file.len() - start < len {
+        return Span {
+            start,
+            stop: file.len(),
+        };
+    }
+    Span {
+        start,
+        stop: start + len,
+    }
+}
+
+// ` name=value`, the name being as many of the `len` bytes at `start` as the file has.
+fn put_setting(file: &[u8], start: usize, len: usize, v: u64, room: &mut [u8], at: usize) -> usize
+    requires { ⌜ ((width : ℕ) → at + length (setting (record { name = take len (drop start (now file)); width = width }) v) ≤ length (now room)) ⌝ }
+    ensures { λ r. ⌜ ((width : ℕ) → Put (setting (record { name = take len (drop start (now (file .entry))); width = width }) v) (now (room .entry)) at r (now (room .exit))) ⌝ }
+{
+    let name = part(file, start, len);
+    let first = name.start;
+    let stop = name.stop;
+    let named = put_byte(b' ', room, at);
+    let equals = put_bytes(&file[first..stop], room, named);
+    let value = put_byte(b'=', room, equals);
+    put_digits(v, room, value)
+}
+
+fn setting_length(file: &[u8], start: usize, len: usize, v: u64) -> usize
+    requires { ⌜ length (now file) ≤ maxFileBytes ⌝ }
+    ensures { λ r. ⌜ ((width : ℕ) → r ≡ length (setting (record { name = take len (drop start (now (file .entry))); width = width }) v)) ⌝ }
+{
+    let name = part(file, start, len);
+    let first = name.start;
+    let stop = name.stop;
+    2 + (stop - first) + digit_count(v)
+}
+
+// The settings of n variables.
+fn put_settings<'a>(
+    file: &[u8],
+    starts: &'a [usize; Edition::VARIABLES],
+    lens: &'a [usize; Edition::VARIABLES],
+    n: usize,
+    row: &[u64],
+    room: &mut [u8],
+    at: usize,
+) -> usize
+    requires { ⌜ (n ≤ maxVariables) × (length (now row) ≡ n) × ((widths : List ℕ) → at + length (settings (variablesIn (now file) (now starts) (now lens) widths n) (now row)) ≤ length (now room)) ⌝ }
+    ensures { λ r. ⌜ ((widths : List ℕ) → Put (settings (variablesIn (now (file .entry)) (now (starts .entry)) (now (lens .entry)) widths n) (now (row .entry))) (now (room .entry)) at r (now (room .exit))) ⌝ }
+{
+    let mut i = 0;
+    let mut end = at;
+    while i < n {
+        let start = starts[i];
+        let len = lens[i];
+        end = put_setting(file, start, len, row[i], room, end);
+        i += 1;
+    }
+    end
+}
+
+fn settings_length<'a>(
+    file: &[u8],
+    starts: &'a [usize; Edition::VARIABLES],
+    lens: &'a [usize; Edition::VARIABLES],
+    n: usize,
+    row: &[u64],
+) -> usize
+    requires { ⌜ (length (now file) ≤ maxFileBytes) × (n ≤ maxVariables) × (length (now row) ≡ n) ⌝ }
+    ensures { λ r. ⌜ ((widths : List ℕ) → r ≡ length (settings (variablesIn (now (file .entry)) (now (starts .entry)) (now (lens .entry)) widths n) (now (row .entry)))) × (r ≤ maxSettingsLength) ⌝ }
+{
+    let mut i = 0;
+    let mut length = 0;
+    while i < n {
+        let start = starts[i];
+        let len = lens[i];
+        length += setting_length(file, start, len, row[i]);
+        i += 1;
+    }
+    length
+}
+
+// The line of the values, if there are variables.
+fn put_values<'a>(
+    file: &[u8],
+    starts: &'a [usize; Edition::VARIABLES],
+    lens: &'a [usize; Edition::VARIABLES],
+    n: usize,
+    row: &[u64],
+    room: &mut [u8],
+    at: usize,
+) -> usize
+    requires { ⌜ (n ≤ maxVariables) × (length (now row) ≡ n) × ((widths : List ℕ) → at + length (valuesLine (variablesIn (now file) (now starts) (now lens) widths n) (now row)) ≤ length (now room)) ⌝ }
+    ensures { λ r. ⌜ ((widths : List ℕ) → Put (valuesLine (variablesIn (now (file .entry)) (now (starts .entry)) (now (lens .entry)) widths n) (now (row .entry))) (now (room .entry)) at r (now (room .exit))) ⌝ }
+{
+    if n == 0 {
+        return at;
+    }
+    let first = put_byte(b'v', room, at);
+    let end = put_settings(file, starts, lens, n, row, room, first);
+    put_byte(b'\n', room, end)
+}
+
+// The answer, at the front of the room.
+pub(crate) fn put_answer<'a>(
+    file: &[u8],
+    starts: &'a [usize; Edition::VARIABLES],
+    lens: &'a [usize; Edition::VARIABLES],
+    n: usize,
+    row: &[u64],
+    room: &mut [u8],
+) -> usize
+    requires { ⌜ (n ≤ maxVariables) × (length (now row) ≡ n) × ((widths : List ℕ) → length (answerText (variablesIn (now file) (now starts) (now lens) widths n) (now row)) ≤ length (now room)) ⌝ }
+    ensures { λ r. ⌜ ((widths : List ℕ) → Put (answerText (variablesIn (now (file .entry)) (now (starts .entry)) (now (lens .entry)) widths n) (now (row .entry))) (now (room .entry)) 0 r (now (room .exit))) ⌝ }
+{
+    let word = put_bytes(b"s ", room, 0);
+    let end = put_bytes(&satisfiable(), room, word);
+    let values = put_byte(b'\n', room, end);
+    put_values(file, starts, lens, n, row, room, values)
+}
+
+// The length of the line `s SATISFIABLE`, and of the `v` and the line end around the settings.
+const SOLUTION_LINE: usize = 14;
+
+const AROUND_SETTINGS: usize = 2;
+
+pub(crate) fn answer_length<'a>(
+    file: &[u8],
+    starts: &'a [usize; Edition::VARIABLES],
+    lens: &'a [usize; Edition::VARIABLES],
+    n: usize,
+    row: &[u64],
+) -> usize
+    requires { ⌜ (length (now file) ≤ maxFileBytes) × (n ≤ maxVariables) × (length (now row) ≡ n) ⌝ }
+    ensures { λ r. ⌜ ((widths : List ℕ) → r ≡ length (answerText (variablesIn (now (file .entry)) (now (starts .entry)) (now (lens .entry)) widths n) (now (row .entry)))) ⌝ }
+{
+    if n == 0 {
+        return SOLUTION_LINE;
+    }
+    SOLUTION_LINE + AROUND_SETTINGS + settings_length(file, starts, lens, n, row)
+}
