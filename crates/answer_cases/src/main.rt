@@ -1,0 +1,193 @@
+// Prints what `answer::read` and `writer::write` answer to each case of standard input, and what they leave in the table or the room that they are lent.
+// tools/answer_cases.py writes the cases and, by an evaluator of its own, the answers.
+//
+// A case is a line of 36 bytes with `r` or `w` and three numbers of eight hexadecimal digits, and the bytes that they count:
+// of `r` a constraint file and an answer, then the entries of the table; of `w` a constraint file, the values in 16 digits each, then the bytes of the room.
+use answer::ReadReply;
+use libc::STDIN_FILENO;
+use libc::STDOUT_FILENO;
+use writer::WriteReply;
+
+const HEADER: usize = 36;
+
+// Where the three numbers of a header stand.
+const FIRST: usize = 2;
+
+const SECOND: usize = 11;
+
+const THIRD: usize = 20;
+
+const NUMBER: usize = 8;
+
+// Room for a file, and for one that is longer than a file may be.
+const FILE: usize = 70000;
+
+const TABLE: usize = 300;
+
+const ROOM: usize = 20000;
+
+// The digits of a value, and of a table.
+const VALUE: usize = 16;
+
+const DIGITS: usize = TABLE * VALUE;
+
+// What stands in a table before a call: each entry is this much more than the one before it.
+const STEP: u64 = 1000003;
+
+// Fills the bytes from standard input; false where it is too short.
+fn load(bytes: &mut [u8]) -> bool {
+    io::read_full(STDIN_FILENO, bytes) == bytes.len()
+}
+
+// The entry behind one with the value v.
+fn next_entry(v: u64) -> u64 {
+    if v <= u64::MAX - STEP { v + STEP } else { v }
+}
+
+fn fill(table: &mut [u64]) {
+    let mut v = 0;
+    let mut i = 0;
+    while i < table.len() {
+        v = next_entry(v);
+        table[i] = v;
+        i += 1;
+    }
+}
+
+// The values that stand in digits, as many as there are.
+fn parse(digits: &[u8], table: &mut [u64]) {
+    let mut at = 0;
+    let mut i = 0;
+    while i < table.len() {
+        if digits.len() - at < VALUE {
+            return;
+        }
+        let end = at + VALUE;
+        table[i] = reporting::hex(digits, at, end);
+        at = end;
+        i += 1;
+    }
+}
+
+fn print_table(table: &[u64]) {
+    let mut i = 0;
+    while i < table.len() {
+        io::print_decimal(STDOUT_FILENO, table[i]);
+        io::write_all(STDOUT_FILENO, b" ");
+        i += 1;
+    }
+    io::write_all(STDOUT_FILENO, b"\n");
+}
+
+fn print_count(word: &[u8], count: usize) {
+    io::write_all(STDOUT_FILENO, word);
+    io::print_decimal(STDOUT_FILENO, count as u64);
+}
+
+// Loads the files of a case, and answers it; false where the input is too short.
+fn read_case(constraint: &mut [u8], answer: &mut [u8], table: &mut [u64]) -> bool {
+    if !load(constraint) {
+        return false;
+    }
+    if !load(answer) {
+        return false;
+    }
+    fill(table);
+    match answer::read(constraint, answer, table) {
+        ReadReply::Read(n) => print_count(b"read ", n),
+        ReadReply::Refused(refusal) => reporting::print_refusal(refusal),
+    }
+    io::write_all(STDOUT_FILENO, b"\n");
+    print_table(table);
+    true
+}
+
+fn write_case(
+    constraint: &mut [u8],
+    digits: &mut [u8],
+    table: &mut [u64],
+    room: &mut [u8],
+) -> bool {
+    if !load(constraint) {
+        return false;
+    }
+    if !load(digits) {
+        return false;
+    }
+    parse(digits, table);
+    match writer::write(constraint, table, room) {
+        WriteReply::Written(n) => print_count(b"written ", n),
+        WriteReply::Refused(refusal) => reporting::print_refusal(refusal),
+    }
+    io::write_all(STDOUT_FILENO, b"\n");
+    io::write_all(STDOUT_FILENO, room);
+    io::write_all(STDOUT_FILENO, b"\n");
+    true
+}
+
+fn run_read(constraint_length: usize, answer_length: usize, entries: usize) -> bool {
+    if FILE < constraint_length {
+        return false;
+    }
+    if FILE < answer_length {
+        return false;
+    }
+    if TABLE < entries {
+        return false;
+    }
+    let mut constraint = [0u8; FILE];
+    let mut answer = [0u8; FILE];
+    let mut table = [0u64; TABLE];
+    read_case(
+        &mut constraint[..constraint_length],
+        &mut answer[..answer_length],
+        &mut table[..entries],
+    )
+}
+
+fn run_write(constraint_length: usize, entries: usize, room_length: usize) -> bool {
+    if FILE < constraint_length {
+        return false;
+    }
+    if TABLE < entries {
+        return false;
+    }
+    if ROOM < room_length {
+        return false;
+    }
+    let mut constraint = [0u8; FILE];
+    let mut digits = [0u8; DIGITS];
+    let mut table = [0u64; TABLE];
+    let mut room = [b'.'; ROOM];
+    let n = entries * VALUE;
+    write_case(
+        &mut constraint[..constraint_length],
+        &mut digits[..n],
+        &mut table[..entries],
+        &mut room[..room_length],
+    )
+}
+
+// Answers the next case; false where none is left, or one is larger than the room for it.
+fn run_case() -> bool {
+    let mut header = [0u8; HEADER];
+    if !load(&mut header) {
+        return false;
+    }
+    let first = reporting::hex(&header, FIRST, FIRST + NUMBER) as usize;
+    let second = reporting::hex(&header, SECOND, SECOND + NUMBER) as usize;
+    let third = reporting::hex(&header, THIRD, THIRD + NUMBER) as usize;
+    if header[0] == b'r' {
+        run_read(first, second, third)
+    } else {
+        run_write(first, second, third)
+    }
+}
+
+// A proved loop has to end, and nothing says that the input does: so the turns are counted down.
+fn main() {
+    let mut turns = u64::MAX;
+    while turns > 0 && run_case() {
+        turns -= 1;
+    }
+}
