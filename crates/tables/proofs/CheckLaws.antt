@@ -1,0 +1,86 @@
+-- The check, by what its steps answer. Assumes nothing.
+use Prim.Native.Nat.{ℕ, _≤_, _<_}
+use mathlib.Core.Path.{_≡_, sym, ap, _∙_}
+use mathlib.Core.List.{List, _++_}
+use lib.ListN.{length, take, drop}
+use lib.Seq.{take-at}
+use borrow.Author.Tests.{le-leb, lt-leb}
+use Rattle.refusal.specs.declared.Refusal.{Refusal}
+use Rattle.refusal.specs.declared.Subject.the-variants.{Values, Verdicts}
+use Rattle.refusal.specs.Numbers.{tooShort}
+use Rattle.refusal.specs.Result.{accepted, refused, refusal}
+use Rattle.constraint.specs.declared.Progress.{Progress}
+use Rattle.constraint.specs.File.{File, edition}
+use Rattle.constraint.specs.Read.{readFile}
+use Rattle.constraint.specs.Claims.{Each}
+use Rattle.constraint.specs.Tables.{linesIn}
+use Rattle.constraint.specs.Answers.{Held, heldVariables, fileHeld}
+use Rattle.constraint.proofs.TableLaws.{lines-length}
+use Rattle.constraint.proofs.LookupLaws.{variables-length}
+use Rattle.constraint.proofs.SoundLaws.{accepted-is-sound}
+use Rattle.judge.specs.Judge.{freshVerdicts, overall}
+use Rattle.judge.specs.Unnamed.{unnamed, Fitting}
+use Rattle.judge.proofs.VerdictLaws.{verdicts-length}
+use Rattle.judge.proofs.HeldLaws.{lines-fit}
+use Rattle.answer.specs.Read.{readAnswer}
+use Rattle.answer.proofs.FitLaws.{row-fits-answer}
+use Rattle.tables.specs.declared.CheckReply.the-variants.{Checked}
+use Rattle.tables.specs.Check.{checkingFor, checking, CheckOutcome, checked}
+use Rattle.tables.proofs.CheckingLaws.{steps-checking}
+
+module _ (constraint answer values verdicts : List ℕ) where
+  -- the constraint file is refused
+  pub refused-constraint : (r : Refusal) → refused r ≡ readFile constraint → refused r ≡ checking constraint answer values verdicts
+  unfolding checking
+  refused-constraint r e = rw (← e)
+
+  -- a file was read
+  module _ (f : File) (e : accepted f ≡ readFile constraint) where
+    -- the answer is refused
+    pub refused-answer : (r : Refusal) → refused r ≡ readAnswer (f .variables) answer → refused r ≡ checking constraint answer values verdicts
+    unfolding checking checkingFor
+    refused-answer r a = rw (← e, ← a)
+
+    -- a row was read; n values are in use
+    module _ (row : List ℕ) (a : accepted row ≡ readAnswer (f .variables) answer) (n : ℕ) (l : length (f .variables) ≡ n) where
+      pub values-short : length values < n → refused (refusal Values tooShort 0) ≡ checking constraint answer values verdicts
+      unfolding checking checkingFor
+      values-short h = rw (← e, ← a, l, lt-leb n (length values) h)
+
+      -- they have room; m verdicts are in use
+      module _ (h : n ≤ length values) (m : ℕ) (k : length (f .lines) ≡ m) where
+        pub verdicts-short : length verdicts < m → refused (refusal Verdicts tooShort 0) ≡ checking constraint answer values verdicts
+        unfolding checking checkingFor
+        verdicts-short i = rw (← e, ← a, l, k, le-leb n (length values) h, lt-leb m (length verdicts) i)
+
+        pub checked-row : m ≤ length verdicts → accepted (f, row) ≡ checking constraint answer values verdicts
+        checked-row i = sym (steps-checking constraint answer values verdicts f row (record { file = sym e; answered = sym a; values-room = rw l h; verdicts-room = rw k i }))
+
+-- the tables that hold a file
+module _ (bytes : List ℕ) (t : Held) (p : Progress) where
+  pub variables-held : length (fileHeld bytes t p .variables) ≡ p .variables
+  variables-held = variables-length bytes (t .starts) (t .lens) (t .widths) (p .variables)
+
+  pub lines-held : length (fileHeld bytes t p .lines) ≡ p .lines
+  lines-held = lines-length (t .lines) (p .lines)
+
+  -- it was accepted
+  module _ (e : accepted (fileHeld bytes t p) ≡ readFile bytes) where
+    -- the operands of each line fit, under the row of an accepted answer
+    pub answer-fits-lines : (answer row : List ℕ) → accepted row ≡ readAnswer (heldVariables bytes t (p .variables)) answer → Each (Fitting (unnamed (t .widths) (p .variables)) row) (linesIn (t .lines) (p .lines))
+    answer-fits-lines answer row a =
+        let f = fileHeld bytes t p in
+        let s = accepted-is-sound bytes f (sym e) in
+        lines-fit bytes t p row e (row-fits-answer (edition f) (f .variables) answer row (s .variables) (s .distinct) (sym a))
+
+    -- the number of lines is the file's
+    pub counts-lines : (f : File) → readFile bytes ≡ accepted f → p .lines ≡ length (f .lines)
+    counts-lines f q =
+        let z : accepted (fileHeld bytes t p) ≡ accepted f = e ∙ q in
+        let y : fileHeld bytes t p ≡ f = cc z in
+        sym lines-held ∙ ap (λ g. length (g .lines)) y
+
+-- the entries in use, filled, and those behind them as they were
+pub tables-filled : (values verdicts : List ℕ) (f : File) (row out fresh vs : List ℕ) (n m : ℕ) → length (f .variables) ≡ n → length (f .lines) ≡ m → fresh ≡ freshVerdicts f row → out ≡ row ++ drop n values → vs ≡ fresh ++ drop m verdicts → _≡_ {A = CheckOutcome} (record { reply = Checked (overall (take m vs)); values = out; verdicts = vs }) (checked values verdicts (accepted (f, row)))
+tables-filled values verdicts f row out fresh vs n m l k q a b =
+    rw (a, b, q, l, k, take-at (freshVerdicts f row) (drop m verdicts) m (verdicts-length (f .variables) row (f .lines) ∙ k))

@@ -1,0 +1,49 @@
+-- A check that is satisfied and one that is refused, by computation. Assumes nothing.
+use Prim.Native.Nat.{ℕ}
+use mathlib.Core.Path.{_≡_, refl, sym, _∙_}
+use mathlib.Core.List.{List, [], _∷_}
+use Rattle.edition.specs.Edition.{editionNumbered, isWidth}
+use Rattle.refusal.specs.declared.Subject.the-variants.{Constraint}
+use Rattle.refusal.specs.Numbers.{misplacedLine}
+use Rattle.refusal.specs.Lists.{every, firstFrom}
+use Rattle.refusal.specs.Result.{refusal}
+use Rattle.refusal.specs.Words.{ascii}
+use Rattle.refusal.proofs.ResultLaws.{never}
+use Rattle.operator.specs.Rules.{arity, widthsHold, joins, typed}
+use Rattle.operator.specs.Meaning.{value, meaning}
+use Rattle.text.specs.Bytes.{same, run, isSpace, isLineFeed, isAllowed, isDigit, isLetter, isNameByte}
+use Rattle.text.specs.Lines.{lineOf, linesFrom, tokenOf, tokensFrom, leads}
+use Rattle.text.specs.Spelling.{isName, isNumeral, decimalFrom, leadingZero, isType, upTo, behind}
+use Rattle.text.specs.Reading.{readAnyLine, readLines, readText}
+use Rattle.constraint.specs.File.{variableNamed, widthAt, word, target}
+use Rattle.constraint.specs.Types.{constantRule, predicateRule, wellTyped}
+use Rattle.spelling.specs.Operators.{bitwise, predicates, arithmetic, shiftsAndCasts, spellings, spelt}
+use Rattle.constraint.specs.Read.{inHeader, readSingle, versionOf, readVersion, declare, declareAll, readDeclarations, readVariable, readOperand, nextOperand, readOperands, readOperation, readConstraint, kindOf, readAs, readLine, readFile}
+use Rattle.judge.specs.declared.Overall.the-variants.{Satisfied}
+use Rattle.judge.specs.Judge.{result, judge, verdictsOf, firstVerdict, overall}
+use Rattle.answer.specs.Read as answer
+use Rattle.tables.specs.declared.CheckReply.the-variants.{Checked, Refused}
+use Rattle.tables.specs.Check.{checkingFor, checking, checkOutcome}
+use Rattle.tables.specs.Claims.{NotAllRefused, NotAllSatisfied}
+
+-- the map of two words, and an answer to it
+abbrev example : List ℕ
+example = ascii "v 1.0\nd hi:i16 lo:i16 r:i32\nc r conc hi lo\n"
+
+abbrev exampleAnswer : List ℕ
+exampleAnswer = ascii "s SATISFIABLE\nv hi=17056 lo=17060 r=1117799076\n"
+
+example-satisfied : checkOutcome example exampleAnswer (0 ∷ 0 ∷ 0 ∷ []) (0 ∷ []) .reply ≡ Checked Satisfied
+unfolding editionNumbered isWidth every firstFrom arity widthsHold joins typed value meaning same run isSpace isLineFeed isAllowed isDigit isLetter isNameByte lineOf linesFrom tokenOf tokensFrom leads isName isNumeral decimalFrom leadingZero isType upTo behind readAnyLine readLines readText variableNamed widthAt word target constantRule predicateRule wellTyped bitwise predicates arithmetic shiftsAndCasts spellings spelt inHeader readSingle versionOf readVersion declare declareAll readDeclarations readVariable readOperand nextOperand readOperands readOperation readConstraint kindOf readAs readLine readFile result judge verdictsOf firstVerdict overall answer.solutionOf answer.readWord answer.readSolution answer.settingOf answer.readSetting answer.readSettings answer.readValues answer.kindOf answer.readAs answer.readLine answer.allSet answer.readAnswer checkingFor checking
+example-satisfied = refl
+
+-- empty files
+empty-refused : checkOutcome [] [] [] [] .reply ≡ Refused (refusal Constraint misplacedLine 0)
+unfolding readLines readText linesFrom readFile checking
+empty-refused = refl
+
+pub not-all-refused : NotAllRefused
+not-all-refused check meets all = let p = all example exampleAnswer (0 ∷ 0 ∷ 0 ∷ []) (0 ∷ []) in never (cc (sym (p .1) ∙ meets example exampleAnswer (0 ∷ 0 ∷ 0 ∷ []) (0 ∷ []) ∙ example-satisfied))
+
+pub not-all-satisfied : NotAllSatisfied
+not-all-satisfied check meets all = never (cc (sym (all [] [] [] []) ∙ meets [] [] [] [] ∙ empty-refused))

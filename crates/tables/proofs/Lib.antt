@@ -1,0 +1,11 @@
+-- Laws that belong to no one function.
+pub mod KnownLaws
+pub mod FileRefusesLaws
+pub mod AnswerRefusesLaws
+pub mod CheckingLaws
+pub mod RepliesLaws
+pub mod SatisfiedLaws
+pub mod ExampleLaws
+pub mod CheckLaws
+pub mod CountLaws
+pub mod ReportLaws

@@ -1,0 +1,5 @@
+pub mod Check
+pub mod Report
+pub mod Replies
+pub mod Answers
+pub mod Claims
