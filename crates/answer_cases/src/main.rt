@@ -4,7 +4,6 @@
 // A case is a line of 36 bytes with `r` or `w` and three numbers of eight hexadecimal digits, and the bytes that they count:
 // of `r` a constraint file and an answer, then the entries of the table; of `w` a constraint file, the values in 16 digits each, then the bytes of the room.
 use answer::ReadReply;
-use libc::STDIN_FILENO;
 use libc::STDOUT_FILENO;
 use writer::WriteReply;
 
@@ -31,29 +30,6 @@ const VALUE: usize = 16;
 
 const DIGITS: usize = TABLE * VALUE;
 
-// What stands in a table before a call: each entry is this much more than the one before it.
-const STEP: u64 = 1000003;
-
-// Fills the bytes from standard input; false where it is too short.
-fn load(bytes: &mut [u8]) -> bool {
-    io::read_full(STDIN_FILENO, bytes) == bytes.len()
-}
-
-// The entry behind one with the value v.
-fn next_entry(v: u64) -> u64 {
-    if v <= u64::MAX - STEP { v + STEP } else { v }
-}
-
-fn fill(table: &mut [u64]) {
-    let mut v = 0;
-    let mut i = 0;
-    while i < table.len() {
-        v = next_entry(v);
-        table[i] = v;
-        i += 1;
-    }
-}
-
 // The values that stand in digits, as many as there are.
 fn parse(digits: &[u8], table: &mut [u64]) {
     let mut at = 0;
@@ -69,36 +45,21 @@ fn parse(digits: &[u8], table: &mut [u64]) {
     }
 }
 
-fn print_table(table: &[u64]) {
-    let mut i = 0;
-    while i < table.len() {
-        io::print_decimal(STDOUT_FILENO, table[i]);
-        io::write_all(STDOUT_FILENO, b" ");
-        i += 1;
-    }
-    io::write_all(STDOUT_FILENO, b"\n");
-}
-
-fn print_count(word: &[u8], count: usize) {
-    io::write_all(STDOUT_FILENO, word);
-    io::print_decimal(STDOUT_FILENO, count as u64);
-}
-
 // Loads the files of a case, and answers it; false where the input is too short.
 fn read_case(constraint: &mut [u8], answer: &mut [u8], table: &mut [u64]) -> bool {
-    if !load(constraint) {
+    if !reporting::load(constraint) {
         return false;
     }
-    if !load(answer) {
+    if !reporting::load(answer) {
         return false;
     }
-    fill(table);
+    reporting::fill(table);
     match answer::read(constraint, answer, table) {
-        ReadReply::Read(n) => print_count(b"read ", n),
+        ReadReply::Read(n) => reporting::print_count(b"read ", n),
         ReadReply::Refused(refusal) => reporting::print_refusal(refusal),
     }
     io::write_all(STDOUT_FILENO, b"\n");
-    print_table(table);
+    reporting::print_table(table);
     true
 }
 
@@ -108,15 +69,15 @@ fn write_case(
     table: &mut [u64],
     room: &mut [u8],
 ) -> bool {
-    if !load(constraint) {
+    if !reporting::load(constraint) {
         return false;
     }
-    if !load(digits) {
+    if !reporting::load(digits) {
         return false;
     }
     parse(digits, table);
     match writer::write(constraint, table, room) {
-        WriteReply::Written(n) => print_count(b"written ", n),
+        WriteReply::Written(n) => reporting::print_count(b"written ", n),
         WriteReply::Refused(refusal) => reporting::print_refusal(refusal),
     }
     io::write_all(STDOUT_FILENO, b"\n");
@@ -171,7 +132,7 @@ fn run_write(constraint_length: usize, entries: usize, room_length: usize) -> bo
 // Answers the next case; false where none is left, or one is larger than the room for it.
 fn run_case() -> bool {
     let mut header = [0u8; HEADER];
-    if !load(&mut header) {
+    if !reporting::load(&mut header) {
         return false;
     }
     let first = reporting::hex(&header, FIRST, FIRST + NUMBER) as usize;

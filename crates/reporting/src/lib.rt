@@ -1,11 +1,15 @@
-// What the programs share: reading a number, and printing a refusal.
+// What the programs share: reading bytes and numbers, tables, and printing counts and refusals.
 ghost use Prim.Native.Nat.{_-_, _≤_, _<_};
 ghost use mathlib.Core.Path.{_≡_};
 ghost use lib.ListN.{length, take, drop};
 ghost use Rattle.reporting.specs.Hex.{digitValue, hexAfter};
+use libc::STDIN_FILENO;
 use libc::STDOUT_FILENO;
 use refusal::Refusal;
 use refusal::Subject;
+
+// What stands in a table before a call: each entry is this much more than the one before it.
+const STEP: u64 = 1000003;
 
 fn digit(c: u8) -> u64
     ensures { λ r. ⌜ (r ≡ digitValue c) × (r < 16) ⌝ }
@@ -29,6 +33,12 @@ pub fn hex(text: &[u8], at: usize, end: usize) -> u64
     value
 }
 
+// Prints a word and a number behind it.
+pub fn print_count(word: &[u8], n: usize) {
+    io::write_all(STDOUT_FILENO, word);
+    io::print_decimal(STDOUT_FILENO, n as u64);
+}
+
 fn print_subject(subject: Subject) {
     let label = subject.word();
     let bytes = label.bytes;
@@ -45,4 +55,36 @@ pub fn print_refusal(refusal: Refusal) {
     print_subject(subject);
     io::write_all(STDOUT_FILENO, b" ");
     io::print_decimal(STDOUT_FILENO, refusal.position as u64);
+}
+
+// Fills the bytes from standard input; false where it is too short.
+pub fn load(bytes: &mut [u8]) -> bool {
+    io::read_full(STDIN_FILENO, bytes) == bytes.len()
+}
+
+// The entry behind one with the value v.
+fn next_entry(v: u64) -> u64 {
+    if v <= u64::MAX - STEP { v + STEP } else { v }
+}
+
+// Fills a table, so that each entry is told from the others.
+pub fn fill(table: &mut [u64]) {
+    let mut v = 0;
+    let mut i = 0;
+    while i < table.len() {
+        v = next_entry(v);
+        table[i] = v;
+        i += 1;
+    }
+}
+
+// Prints the entries of a table, a space behind each, and a line end.
+pub fn print_table(table: &[u64]) {
+    let mut i = 0;
+    while i < table.len() {
+        io::print_decimal(STDOUT_FILENO, table[i]);
+        io::write_all(STDOUT_FILENO, b" ");
+        i += 1;
+    }
+    io::write_all(STDOUT_FILENO, b"\n");
 }

@@ -9,3 +9,11 @@ pub mod ExampleLaws
 pub mod CheckLaws
 pub mod CountLaws
 pub mod ReportLaws
+pub mod RenewLaws
+pub mod GateLaws
+pub mod ChangeLaws
+pub mod ChangeHeldLaws
+pub mod NamesLaws
+pub mod TouchLaws
+pub mod RunLaws
+pub mod WholeLaws

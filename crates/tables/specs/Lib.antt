@@ -3,3 +3,7 @@ pub mod Report
 pub mod Replies
 pub mod Answers
 pub mod Claims
+pub mod Change
+pub mod Gate
+pub mod Run
+pub mod Whole

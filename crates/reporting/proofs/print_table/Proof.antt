@@ -2,8 +2,8 @@ use Prim.Native.Nat.{_-_, _≤_}
 use mathlib.Core.Path.{_≡_}
 use lib.ListN.{length}
 use borrow.Author.Needs.{needs}
-use Rattle.answer_cases.proofs.print_table.Statement.{statement}
-use Rattle.answer_cases.proofs.print_table.Tie as tie
+use Rattle.reporting.proofs.print_table.Statement.{statement}
+use Rattle.reporting.proofs.print_table.Tie as tie
 
 abbrev Inv-loop : tie.InvT-loop
 Inv-loop table i₀ t3 t4 i = (i ≤ length table) × (length t3 ≡ 1) × (length t4 ≡ 1)

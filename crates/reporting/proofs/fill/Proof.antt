@@ -3,8 +3,8 @@ use mathlib.Core.Path.{_≡_, refl, _∙_}
 use native.Mathlib.Omega.{arith}
 use lib.ListN.{length, length-set}
 use borrow.Author.Needs.{needs}
-use Rattle.answer_cases.proofs.fill.Statement.{statement}
-use Rattle.answer_cases.proofs.fill.Tie as tie
+use Rattle.reporting.proofs.fill.Statement.{statement}
+use Rattle.reporting.proofs.fill.Tie as tie
 
 abbrev Inv-loop : tie.InvT-loop
 Inv-loop table₀ v₀ i₀ table v i = (i ≤ length table₀) × (length table ≡ length table₀)

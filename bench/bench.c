@@ -1,0 +1,399 @@
+/* Times spear_check against plain_check on files made here. Every file is satisfied. */
+
+#define _POSIX_C_SOURCE 199309L
+
+#include "../include/spear.h"
+#include "plain.h"
+
+#include <inttypes.h>
+#include <stdarg.h>
+#include <stdbool.h>
+#include <stdio.h>
+#include <stdlib.h>
+#include <time.h>
+
+enum { FILE_BYTES = 65536, VARIABLES = 256, GROUP = 8, OPERANDS = 3, ROUNDS = 15 };
+static const double MEASUREMENT_SECONDS = 0.1;
+
+static void fail(const char *why)
+{
+    fprintf(stderr, "bench: %s\n", why);
+    exit(EXIT_FAILURE);
+}
+
+/* A repeatable random number below the bound (xorshift). */
+static uint64_t draw(uint64_t bound)
+{
+    static uint64_t state = 88172645463325252u;
+    state ^= state << 13;
+    state ^= state >> 7;
+    state ^= state << 17;
+    return state % bound;
+}
+
+static uint64_t mask(unsigned width)
+{
+    return UINT64_MAX >> (64 - width);
+}
+
+/* Files as text. */
+
+struct text {
+    char bytes[FILE_BYTES + 1]; /* vsnprintf ends it with a zero byte */
+    size_t length;
+};
+
+__attribute__((format(printf, 2, 3))) static void print(struct text *text, const char *format, ...)
+{
+    va_list arguments;
+    va_start(arguments, format);
+    size_t room = sizeof text->bytes - text->length;
+    int added = vsnprintf(text->bytes + text->length, room, format, arguments);
+    va_end(arguments);
+    if (added < 0 || (size_t)added >= room)
+        fail("the file is full");
+    text->length += (size_t)added;
+}
+
+struct input {
+    const char *name;
+    unsigned variable_count, name_bytes, line_count; /* variables come in whole groups */
+};
+
+struct files {
+    struct text constraints, answer;
+};
+
+/* Variables, in groups of 8 whose values are related so that results often fit a variable. */
+
+struct operand {
+    uint64_t value;
+    unsigned width;
+    char spelling[40];
+};
+
+static const unsigned group_widths[GROUP] = {1, 1, 8, 8, 16, 32, 32, 64};
+
+static void make_group(struct operand *group)
+{
+    uint64_t high = draw(256), low = draw(256), word = high << 8 | low, top = draw(mask(32));
+    uint64_t values[GROUP] = {0, 1, high, low, word, word, top, top << 32 | word};
+    for (unsigned i = 0; i < GROUP; i++) {
+        group[i].value = values[i];
+        group[i].width = group_widths[i];
+    }
+}
+
+static void make_variables(struct operand *variables, const struct input *input)
+{
+    for (unsigned i = 0; i < input->variable_count; i++) {
+        if (i % GROUP == 0)
+            make_group(&variables[i]);
+        snprintf(variables[i].spelling, sizeof variables[i].spelling, "x%0*u",
+                 (int)input->name_bytes - 1, i);
+    }
+}
+
+static struct operand constant(uint64_t value, unsigned width)
+{
+    struct operand made = {.value = value & mask(width), .width = width};
+    snprintf(made.spelling, sizeof made.spelling, "%" PRIu64 ":i%u", made.value, width);
+    return made;
+}
+
+/* More seldom i1, of which lines say little. */
+static unsigned any_width(void)
+{
+    return group_widths[draw(8) ? 2 + draw(GROUP - 2) : 0];
+}
+
+/* One in three is a constant, and half of these are 0 or 1. */
+static struct operand any_operand(const struct operand *group, unsigned width)
+{
+    size_t i = draw(GROUP);
+    if (draw(3) == 0)
+        return constant(draw(2) ? draw(2) : draw(UINT64_MAX), width);
+    while (group[i].width != width)
+        i = draw(GROUP);
+    return group[i];
+}
+
+/* Operators. */
+
+enum shape { SAME, ONE, BOOLS, COMPARED, CHOICE, DIVIDED, SHIFTED, NARROWED, WIDENED, JOINED, CUT };
+
+enum operator {
+    AND, OR, XOR, NOT, IMPLIES, EQ, NE, ULE, UGE, ULT, UGT, SLE, SGE, SLT, SGT, ITE,
+    ADD, SUB, MUL, UDIV, SDIV, UREM, SREM, SHL, ASHR, LSHR, TRUN, SEXT, ZEXT, CONC, EXTR,
+    OPERATORS,
+};
+
+static const struct {
+    const char *spelling;
+    enum shape shape;
+} operators[OPERATORS] = {
+    {"&", SAME}, {"|", SAME}, {"^", SAME}, {"~", ONE}, {"=>", BOOLS}, {"=", COMPARED},
+    {"/=", COMPARED}, {"ule", COMPARED}, {"uge", COMPARED}, {"ult", COMPARED}, {"ugt", COMPARED},
+    {"sle", COMPARED}, {"sge", COMPARED}, {"slt", COMPARED}, {"sgt", COMPARED}, {"ite", CHOICE},
+    {"+", SAME}, {"-", SAME}, {"*", SAME}, {"/u", DIVIDED}, {"/s", DIVIDED}, {"%u", DIVIDED},
+    {"%s", DIVIDED}, {"<<", SHIFTED}, {">>a", SHIFTED}, {">>l", SHIFTED}, {"trun", NARROWED},
+    {"sext", WIDENED}, {"zext", WIDENED}, {"conc", JOINED}, {"extr", CUT},
+};
+
+struct line {
+    enum operator operator;
+    struct operand operands[OPERANDS]; /* with the width 0 where the operator takes fewer */
+    struct operand output;             /* what the operator results in */
+};
+
+typedef __int128 wide;
+
+static wide signed_reading(struct operand operand)
+{
+    bool negative = operand.value >> (operand.width - 1);
+    return (wide)operand.value - (negative ? (wide)1 << operand.width : 0);
+}
+
+/* Def. 21: rounds away from zero where the signs differ. */
+static wide signed_quotient(wide a, wide b)
+{
+    bool away = (a < 0) != (b < 0) && a % b != 0;
+    return a / b - (away ? 1 : 0);
+}
+
+static uint64_t result_of(const struct line *line)
+{
+    const struct operand *o = line->operands;
+    wide a = o[0].value, b = o[1].value, c = o[2].value;
+    wide sa = signed_reading(o[0]), sb = o[1].width ? signed_reading(o[1]) : 0;
+    switch (line->operator) {
+    case AND: return a & b;
+    case OR: return a | b;
+    case XOR: return a ^ b;
+    case NOT: return ~a;
+    case IMPLIES: return !a || b;
+    case EQ: return a == b;
+    case NE: return a != b;
+    case ULE: return a <= b;
+    case UGE: return a >= b;
+    case ULT: return a < b;
+    case UGT: return a > b;
+    case SLE: return sa <= sb;
+    case SGE: return sa >= sb;
+    case SLT: return sa < sb;
+    case SGT: return sa > sb;
+    case ITE: return a ? b : c;
+    case ADD: return a + b;
+    case SUB: return a - b;
+    case MUL: return o[0].value * o[1].value;
+    case UDIV: return a / b;
+    case SDIV: return signed_quotient(sa, sb);
+    case UREM: return a % b;
+    case SREM: return sa - signed_quotient(sa, sb) * sb;
+    case SHL: return b < o[0].width ? o[0].value << b : 0;
+    case ASHR: return sa >> (b < o[0].width ? b : 64);
+    case LSHR: return b < o[0].width ? a >> b : 0;
+    case TRUN: case ZEXT: return a;
+    case SEXT: return sa;
+    case CONC: return o[0].value << o[1].width | o[1].value;
+    default: return a >> b; /* EXTR */
+    }
+}
+
+struct widths {
+    unsigned operands[OPERANDS];
+    unsigned result; /* 0 where those drawn don't suit */
+};
+
+static struct widths draw_widths(enum shape shape)
+{
+    unsigned a = any_width(), b = any_width();
+    switch (shape) {
+    case ONE: return (struct widths){{a}, a};
+    case BOOLS: return (struct widths){{1, 1}, 1};
+    case COMPARED: return (struct widths){{a, a}, 1};
+    case CHOICE: return (struct widths){{1, a, a}, a};
+    case SHIFTED: return (struct widths){{a, 8}, a};
+    case NARROWED: return (struct widths){{a}, b < a ? b : 0};
+    case WIDENED: return (struct widths){{a}, b > a ? b : 0};
+    case JOINED: return (struct widths){{a, b}, a + b <= 64 ? a + b : 0};
+    case CUT: return (struct widths){{a, 8, 8}, b <= a ? b : 0};
+    default: return (struct widths){{a, a}, a};
+    }
+}
+
+static void draw_operands(const struct operand *group, const struct widths *widths,
+                          struct line *line)
+{
+    struct operand *operands = line->operands;
+    enum shape shape = operators[line->operator].shape;
+    for (int i = 0; i < OPERANDS && widths->operands[i] > 0; i++)
+        operands[i] = any_operand(group, widths->operands[i]);
+    if (shape == DIVIDED && operands[1].value == 0)
+        operands[1] = constant(1, widths->operands[1]);
+    if (shape == SHIFTED && draw(2))
+        operands[1] = constant(draw(widths->operands[0]), 8);
+    if (shape == CUT) {
+        uint64_t from = draw(widths->operands[0] - widths->result + 1);
+        operands[1] = constant(from, 8);
+        operands[2] = constant(from + widths->result, 8);
+    }
+}
+
+/* The output is a variable that fits the result, or else a constant. */
+static bool find_output(const struct operand *group, struct line *line, unsigned width)
+{
+    line->output = constant(result_of(line), width);
+    for (const struct operand *variable = group; variable < group + GROUP; variable++)
+        if (variable->width == width && variable->value == line->output.value) {
+            line->output = *variable;
+            return true;
+        }
+    return false;
+}
+
+/* Tries some times over to have a variable as output. */
+static struct line make_line(const struct operand *group, enum operator operator)
+{
+    struct line line = {.operator = operator};
+    bool found = false;
+    for (int tries = 0; tries < 4 && !found; tries++) {
+        struct widths widths;
+        do
+            widths = draw_widths(operators[operator].shape);
+        while (widths.result == 0);
+        draw_operands(group, &widths, &line);
+        found = find_output(group, &line, widths.result);
+    }
+    return line;
+}
+
+static void print_line(struct text *text, const struct line *line)
+{
+    bool may_be_p = line->operator <= ITE && line->output.width == 1 && line->output.value == 1;
+    if (may_be_p && draw(2))
+        print(text, "p");
+    else
+        print(text, "c %s", line->output.spelling);
+    print(text, " %s", operators[line->operator].spelling);
+    for (int i = 0; i < OPERANDS && line->operands[i].width > 0; i++)
+        print(text, " %s", line->operands[i].spelling);
+    print(text, "\n");
+}
+
+static void print_variables(struct files *files, const struct operand *variables, unsigned count)
+{
+    for (unsigned i = 0; i < count; i++) {
+        const char *end = i % GROUP == GROUP - 1 ? "\n" : "";
+        print(&files->constraints, "%s %s:i%u%s", i % GROUP == 0 ? "d" : "", variables[i].spelling,
+              variables[i].width, end);
+        print(&files->answer, "%s %s=%" PRIu64 "%s", i % GROUP == 0 ? "v" : "",
+              variables[i].spelling, variables[i].value, end);
+    }
+}
+
+static void make_files(struct files *files, const struct input *input)
+{
+    static struct operand variables[VARIABLES];
+    files->constraints.length = files->answer.length = 0;
+    make_variables(variables, input);
+    print(&files->constraints, "v 1.0\n");
+    print(&files->answer, "s SATISFIABLE\n");
+    print_variables(files, variables, input->variable_count);
+    for (unsigned i = 0; i < input->line_count; i++) {
+        size_t group = draw(input->variable_count / GROUP) * GROUP;
+        struct line line = make_line(&variables[group], i % OPERATORS);
+        print_line(&files->constraints, &line);
+    }
+}
+
+/* Measuring. */
+
+typedef uint32_t check(const uint8_t *, size_t, const uint8_t *, size_t);
+
+static double now(void)
+{
+    struct timespec time;
+    clock_gettime(CLOCK_MONOTONIC, &time);
+    return (double)time.tv_sec + 1e-9 * (double)time.tv_nsec;
+}
+
+static uint32_t reply_of(check *checker, const struct files *files)
+{
+    return checker((const uint8_t *)files->constraints.bytes, files->constraints.length,
+                   (const uint8_t *)files->answer.bytes, files->answer.length);
+}
+
+static double seconds_for(check *checker, const struct files *files, long repetitions)
+{
+    double start = now();
+    for (long i = 0; i < repetitions; i++)
+        if (reply_of(checker, files) != 0)
+            fail("a later reply isn't 0");
+    return now() - start;
+}
+
+static long enough_repetitions(check *checker, const struct files *files)
+{
+    long repetitions = 1;
+    while (seconds_for(checker, files, repetitions) < MEASUREMENT_SECONDS)
+        repetitions *= 2;
+    return repetitions;
+}
+
+struct measurement {
+    check *checker;
+    long repetitions;
+    double best; /* seconds for one call */
+};
+
+static void measure(struct measurement *of, const struct files *files)
+{
+    double seconds = seconds_for(of->checker, files, of->repetitions) / (double)of->repetitions;
+    if (of->best == 0 || seconds < of->best)
+        of->best = seconds;
+}
+
+/* The two take turns, so that both meet the same state of the machine. */
+static void report(const struct input *input)
+{
+    static struct files files;
+    make_files(&files, input);
+    uint32_t spear_reply = reply_of(spear_check, &files);
+    uint32_t plain_reply = reply_of(plain_check, &files);
+    printf("%-26s", input->name);
+    if (spear_reply != plain_reply || plain_reply != 0) {
+        printf(" replies %" PRIu32 " and %" PRIu32 "\n", spear_reply, plain_reply);
+        exit(EXIT_FAILURE);
+    }
+    struct measurement spear = {spear_check, enough_repetitions(spear_check, &files), 0};
+    struct measurement plain = {plain_check, enough_repetitions(plain_check, &files), 0};
+    for (int round = 0; round < ROUNDS; round++) {
+        measure(&spear, &files);
+        measure(&plain, &files);
+    }
+    size_t file = files.constraints.length, answer = files.answer.length;
+    printf(" %7zu %7zu %10.3f %10.3f %7.2f", file, answer, 1e6 * spear.best, 1e6 * plain.best,
+           spear.best / plain.best);
+    if (input->variable_count == GROUP)
+        printf(" %10.2f %10.2f", 1e9 * spear.best / (double)(file + answer),
+               1e9 * plain.best / (double)(file + answer));
+    printf("\n");
+}
+
+int main(void)
+{
+    static const struct input inputs[] = {
+        {"smallest file", 0, 0, 0},
+        {"8 variables, 16 lines", 8, 2, 16},
+        {"8 variables, 64 lines", 8, 2, 64},
+        {"8 variables, 256 lines", 8, 2, 256},
+        {"8 variables, 1024 lines", 8, 2, 1024},
+        {"256 variables, 1024 lines", 256, 12, 1024},
+        {"256 variables, no lines", 256, 12, 0},
+    };
+    printf("%-26s %7s %7s %10s %10s %7s %10s %10s\n", "input", "file B", "answ. B", "spear us",
+           "plain us", "ratio", "spear ns/B", "plain ns/B");
+    for (size_t i = 0; i < sizeof inputs / sizeof *inputs; i++)
+        report(&inputs[i]);
+}
