@@ -4,10 +4,10 @@
 // A case is a line of 38 bytes with `k` and four numbers of eight hexadecimal digits, and the bytes of two files:
 // the numbers are the lengths of the constraint file and of the answer, and the entries of the value table and of the verdict table.
 use libc::STDOUT_FILENO;
-use printing::print_overall;
+use printing::print_reply;
 use printing::print_report;
+use printing::print_verdicts;
 use spear::spear_check;
-use tables::CheckReply;
 use tables::check::check;
 use tables::reports::report;
 
@@ -33,28 +33,6 @@ const VERDICTS: usize = 1100;
 
 // What stands in a table of verdicts before a call.
 const NO_VERDICT: u8 = 7;
-
-fn print_verdict(verdict: u8) {
-    io::print_decimal(STDOUT_FILENO, verdict as u64);
-    io::write_all(STDOUT_FILENO, b" ");
-}
-
-fn print_verdicts(verdicts: &[u8]) {
-    let mut i = 0;
-    while i < verdicts.len() {
-        print_verdict(verdicts[i]);
-        i += 1;
-    }
-    io::write_all(STDOUT_FILENO, b"\n");
-}
-
-fn print_reply(reply: CheckReply) {
-    match reply {
-        CheckReply::Checked(overall) => print_overall(overall),
-        CheckReply::Refused(refusal) => reporting::print_refusal(refusal),
-    }
-    io::write_all(STDOUT_FILENO, b"\n");
-}
 
 // Prints what the check, the report and the C call answer.
 fn print_case(constraint: &[u8], answer: &[u8], values: &mut [u64], verdicts: &mut [u8]) {

@@ -1,8 +1,8 @@
 use Prim.Native.Nat.{_-_, _≤_}
 use lib.ListN.{length}
 use borrow.Author.Needs.{needs}
-use Rattle.check_cases.proofs.print_verdicts.Statement.{statement}
-use Rattle.check_cases.proofs.print_verdicts.Tie as tie
+use Rattle.printing.proofs.print_verdicts.Statement.{statement}
+use Rattle.printing.proofs.print_verdicts.Tie as tie
 
 abbrev Inv-loop : tie.InvT-loop
 Inv-loop verdicts i₀ t3 i = i ≤ length verdicts

@@ -1,0 +1,168 @@
+// Replays runs of changes from standard input: prints what the check answers, what each change answers, and what is left in the tables.
+// tools/change_cases.py writes the runs and, by a model of its own, the answers.
+//
+// A run is a line of 38 bytes with `r` and four numbers of eight hexadecimal digits, and the bytes of two files:
+// the numbers are the lengths of the constraint file and of the answer, and the entries of the value table and of the verdict table.
+// Then lines of 54 bytes: `c`, a variable and a value in 16 digits each, and how many values and verdicts are lent, in eight each; `e` ends the run.
+use libc::STDOUT_FILENO;
+use printing::print_overall;
+use printing::print_reply;
+use printing::print_verdicts;
+use tables::ChangeReply;
+use tables::check::check;
+use tables::runs::change_front;
+
+const HEADER: usize = 38;
+
+// Where the four numbers of a header stand.
+const FIRST: usize = 2;
+
+const SECOND: usize = 11;
+
+const THIRD: usize = 20;
+
+const FOURTH: usize = 29;
+
+const NUMBER: usize = 8;
+
+const CHANGE: usize = 54;
+
+// Where the numbers of a change stand.
+const VARIABLE: usize = 2;
+
+const VALUE: usize = 19;
+
+const VALUES_LENT: usize = 36;
+
+const VERDICTS_LENT: usize = 45;
+
+const LONG_NUMBER: usize = 16;
+
+// Room for a file, and for one that is longer than a file may be.
+const FILE: usize = 70000;
+
+const VALUES: usize = 300;
+
+const VERDICTS: usize = 1100;
+
+// What stands in a table of verdicts before a call.
+const NO_VERDICT: u8 = 7;
+
+fn print_change(reply: ChangeReply) {
+    match reply {
+        ChangeReply::Changed(effect) => {
+            let overall = effect.overall;
+            print_overall(overall);
+            reporting::print_count(b" named ", effect.named);
+            reporting::print_count(b" altered ", effect.altered);
+            reporting::print_count(b" bits ", effect.bits as usize);
+        }
+        ChangeReply::Refused(refusal) => reporting::print_refusal(refusal),
+    }
+    io::write_all(STDOUT_FILENO, b"\n");
+}
+
+// Makes the next change; false where the run ends.
+fn change_next(constraint: &[u8], values: &mut [u64], verdicts: &mut [u8]) -> bool {
+    let mut line = [0u8; CHANGE];
+    if !reporting::load(&mut line) {
+        return false;
+    }
+    if line[0] != b'c' {
+        return false;
+    }
+    let variable = reporting::hex(&line, VARIABLE, VARIABLE + LONG_NUMBER) as usize;
+    let value = reporting::hex(&line, VALUE, VALUE + LONG_NUMBER);
+    let p = reporting::hex(&line, VALUES_LENT, VALUES_LENT + NUMBER) as usize;
+    let q = reporting::hex(&line, VERDICTS_LENT, VERDICTS_LENT + NUMBER) as usize;
+    print_change(change_front(constraint, values, p, verdicts, q, variable, value));
+    true
+}
+
+// A proved loop has to end, and nothing says that the input does: so the turns are counted down.
+fn change_all(constraint: &[u8], values: &mut [u64], verdicts: &mut [u8]) {
+    let mut turns = u64::MAX;
+    while turns > 0 && change_next(constraint, values, verdicts) {
+        turns -= 1;
+    }
+}
+
+fn replay(constraint: &[u8], answer: &[u8], values: &mut [u64], verdicts: &mut [u8]) {
+    reporting::fill(values);
+    print_reply(check(constraint, answer, values, verdicts));
+    change_all(constraint, values, verdicts);
+    reporting::print_table(values);
+    print_verdicts(verdicts);
+}
+
+// Loads the files of a run, and replays it; false where the input is too short.
+fn replay_run(
+    constraint: &mut [u8],
+    answer: &mut [u8],
+    values: &mut [u64],
+    verdicts: &mut [u8],
+) -> bool {
+    if !reporting::load(constraint) {
+        return false;
+    }
+    if !reporting::load(answer) {
+        return false;
+    }
+    replay(constraint, answer, values, verdicts);
+    true
+}
+
+fn run(
+    constraint_length: usize,
+    answer_length: usize,
+    values_length: usize,
+    verdicts_length: usize,
+) -> bool {
+    if FILE < constraint_length {
+        return false;
+    }
+    if FILE < answer_length {
+        return false;
+    }
+    if VALUES < values_length {
+        return false;
+    }
+    if VERDICTS < verdicts_length {
+        return false;
+    }
+    let mut constraint = [0u8; FILE];
+    let mut answer = [0u8; FILE];
+    let mut values = [0u64; VALUES];
+    let mut verdicts = [NO_VERDICT; VERDICTS];
+    replay_run(
+        &mut constraint[..constraint_length],
+        &mut answer[..answer_length],
+        &mut values[..values_length],
+        &mut verdicts[..verdicts_length],
+    )
+}
+
+// Replays the next run; false where none is left, or one is larger than the room for it.
+fn run_case() -> bool {
+    let mut header = [0u8; HEADER];
+    if !reporting::load(&mut header) {
+        return false;
+    }
+    let constraint_length = reporting::hex(&header, FIRST, FIRST + NUMBER) as usize;
+    let answer_length = reporting::hex(&header, SECOND, SECOND + NUMBER) as usize;
+    let values_length = reporting::hex(&header, THIRD, THIRD + NUMBER) as usize;
+    let verdicts_length = reporting::hex(&header, FOURTH, FOURTH + NUMBER) as usize;
+    run(
+        constraint_length,
+        answer_length,
+        values_length,
+        verdicts_length,
+    )
+}
+
+fn main() {
+    let mut turns = u64::MAX;
+    while turns > 0 && run_case() {
+        turns -= 1;
+    }
+}

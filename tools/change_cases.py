@@ -1,0 +1,620 @@
+#!/usr/bin/env python3
+"""Writes runs of single-value changes, each after a check, to FOLDER/stdin, and what checks.py and changes.py
+answer to FOLDER/stdout. Every run of this program writes the same.
+
+usage: python3 tools/change_cases.py FOLDER
+
+A run starts with a line of 38 bytes: `r` and four numbers of eight hexadecimal digits, the lengths of the
+constraint file and of the answer and the entries of the value and verdict tables. Both files follow, then a
+line of 54 bytes for each change: `c`, the variable and the value in sixteen hexadecimal digits, and how many
+values and verdicts are lent in eight. A line of `e` and spaces, as long, ends the run.
+The reply is a line for the check, a line for each change, and both tables after the run.
+"""
+import sys
+from collections import Counter
+from itertools import combinations, product
+from pathlib import Path
+
+sys.dont_write_bytecode = True  # no __pycache__ in the repository
+import answer_cases
+import answers
+import changes
+import checks
+import constraints
+from answer_cases import (
+    MOST,
+    MOST_BYTES,
+    MOST_ENTRIES,
+    Instance,
+    any_answer,
+    any_fitting,
+    any_value,
+    constant,
+    mutated,
+    random,
+)
+from answers import Refusal
+from changes import Changed, Model
+from check_cases import LENT_VERDICT, MOST_VERDICTS, lengths_around, nearly
+from checks import Checked
+from constraints import unmarked
+from operator_vectors import edges
+from operators import DIVISIONS, OPERATORS, Word
+
+END = b"e".ljust(53) + b"\n"
+
+
+# A run in the corpus, and its replies.
+
+
+def table_line(table):
+    return "".join(f"{entry} " for entry in table) + "\n"
+
+
+class Run:
+    """A check on the whole tables, then the changes made so far. After an accepted check the model goes along."""
+
+    def __init__(self, constraint, answer, values, verdicts):
+        assert max(len(constraint), len(answer)) <= MOST_BYTES
+        assert values <= MOST_ENTRIES and verdicts <= MOST_VERDICTS
+        self.constraint, self.answer = constraint, answer
+        self.file = answers.read_constraint(constraint)
+        self.values = [1000003 * (i + 1) for i in range(values)]
+        self.verdicts = [LENT_VERDICT] * verdicts
+        lengths = len(constraint), len(answer), values, verdicts
+        self.calls = [answer_cases.header("r", *lengths) + constraint + answer]
+        self.checked = checks.check(constraint, answer, values, verdicts)
+        self.found = []
+        self.model = None
+        if isinstance(self.checked, Checked):
+            self.values[: len(self.checked.values)] = self.checked.values
+            self.verdicts[: len(self.checked.verdicts)] = self.checked.verdicts
+            self.model = Model(self.file, self.checked.values)
+
+    def change(self, variable, value, values_lent=None, verdicts_lent=None):
+        """Makes the change on the first entries lent of the tables, by default on the whole."""
+        values, verdicts = self.values[:values_lent], self.verdicts[:verdicts_lent]
+        lengths = len(values), len(verdicts)
+        found = changes.change(self.constraint, values, verdicts, variable, value)
+        self.assert_answer(found, self.model and self.model.change(variable, value, *lengths), values, verdicts)
+        self.values[: lengths[0]], self.verdicts[: lengths[1]] = values, verdicts
+        self.calls.append("c {:016x} {:016x} {:08x} {:08x}\n".format(variable, value, *lengths).encode())
+        self.found.append(found)
+        return found
+
+    def expect(self, said, *numbers):
+        """Makes a change that must answer this."""
+        found = self.change(*numbers)
+        assert found == said, (found, said)
+
+    def assert_answer(self, found, modelled, values, verdicts):
+        """That a change answers as the model does, and leaves the tables where it is refused."""
+        assert not self.model or found == modelled, (found, modelled)
+        before = self.values[: len(values)], self.verdicts[: len(verdicts)]
+        assert isinstance(found, Changed) or (values, verdicts) == before, found
+
+    def assert_fresh(self):
+        """That the tables are the model's row and its verdicts, as a fresh check puts them there."""
+        row = self.model.row
+        fresh = checks.check(self.constraint, answers.spelled(self.file, row), len(row), len(self.file.lines))
+        assert (fresh.values, fresh.verdicts) == (row, self.model.verdicts())
+        spare = range(len(row) + 1, len(self.values) + 1)
+        assert self.values == row + [1000003 * i for i in spare]
+        assert self.verdicts == fresh.verdicts + [LENT_VERDICT] * (len(self.verdicts) - len(fresh.verdicts))
+
+    def stdin(self):
+        return b"".join(self.calls) + END
+
+    def stdout(self):
+        said = checks.outcome(self.checked) + "".join(map(changes.outcome, self.found))
+        return (said + table_line(self.values) + table_line(self.verdicts)).encode()
+
+
+def any_spare():
+    return random.choice((0, 0, 1, 7, 40))
+
+
+def sized(constraint, answer):
+    """A run whose tables are as long as the entries in use, or longer."""
+    file = answers.read_constraint(constraint)
+    used = (4, 4) if isinstance(file, Refusal) else (len(file.variables), len(file.lines))
+    return Run(constraint, answer, *(count + any_spare() for count in used))
+
+
+def accepted(constraint, values):
+    """A run after an accepted check that sets these values."""
+    run = sized(constraint, any_answer(constraint, values))
+    assert run.model, run.checked
+    return run
+
+
+# A change's numbers, for a constraint file that is read.
+
+
+def widths(run):
+    return list(run.file.variables.values())
+
+
+def naming(run, variable):
+    """The lines that name the variable."""
+    name = list(run.file.variables)[variable]
+    return [line for line in run.file.lines if changes.is_named(line, name)]
+
+
+def results(run, variable):
+    """The results of the lines that have the variable as their output."""
+    lines = [line for line in run.file.lines if line.output == run.model.declared(variable)]
+    found = [answers.result(run.file, line, run.model.row) for line in lines]
+    return [result for result in found if result is not None]
+
+
+def mending(run, variable, values):
+    """The one of the values under which most lines hold."""
+
+    def held(value):
+        row = [value if i == variable else other for i, other in enumerate(run.model.row)]
+        return sum(answers.verdict(run.file, line, row) == 1 for line in naming(run, variable))
+
+    return max(values, key=held)
+
+
+def fitting(run, variable):
+    """A value that fits: any, or of some values the one under which most lines hold."""
+    width, old = widths(run)[variable], run.values[variable]
+    values = [0, old + 1, old - 1, ~old, any_value(width), any_value(width), random.choice(run.values)]
+    if run.model and random.random() < 0.5:
+        values += [run.checked.values[variable], *results(run, variable)]
+        return mending(run, variable, [value % 2**width for value in values])
+    return random.choice(values) % 2**width
+
+
+def any_fit(run, variable):
+    """A value that fits, seldom the old one."""
+    value, old, width = fitting(run, variable), run.values[variable], widths(run)[variable]
+    is_kept = value != old or random.random() < 0.2
+    return value if is_kept else old ^ 1 << random.randrange(width)
+
+
+def any_unfit(run, variable):
+    """A value that doesn't fit a variable of less than 64 bits, often with the old value in its low bits."""
+    most = 2 ** widths(run)[variable]
+    old = run.values[variable] % most
+    high = random.randrange(most, 2**64) // most * most
+    return random.choice((most, most + 1, most + old, high + old, MOST, random.randrange(most, 2**64)))
+
+
+def any_missing(run):
+    """No variable's number, often with such a number in its low bits."""
+    count = len(run.file.variables)
+    low = random.randrange(max(count, 1))
+    far = (256 + low, 2**16 + low, 2**32 + low, 2**63 + low, 2**63, MOST, random.randrange(256, 2**64))
+    return random.choice((count, count, count + 1, *far))
+
+
+def any_lent(used, whole, is_short):
+    """How many entries are lent of a table."""
+    if is_short:
+        return random.choice((used - 1, used - 1, random.randrange(used), 0))
+    return random.choice((used, whole, whole, random.randint(used, whole)))
+
+
+# The faults of a change in the order in which they refuse it.
+FAULTS = {
+    "values": Refusal(21, "values", 0),
+    "verdicts": Refusal(21, "verdicts", 0),
+    "number": Refusal(23, "call", 0),
+    "value": Refusal(18, "call", 0),
+}
+
+
+def narrow_variables(run):
+    return [i for i, width in enumerate(widths(run)) if width < 64]
+
+
+def possible_faults(run):
+    """The faults that a change in the run can have."""
+    can = {"values": run.file.variables, "verdicts": run.file.lines, "number": True, "value": narrow_variables(run)}
+    return [fault for fault in FAULTS if can[fault]]
+
+
+def any_numbers(run, faults):
+    """A variable and a value with these faults and no other."""
+    if "number" in faults:
+        return any_missing(run), random.choice((MOST, 2**63)) if "value" in faults else random.choice((0, 1))
+    if "value" in faults:
+        variable = random.choice(narrow_variables(run))
+        return variable, any_unfit(run, variable)
+    variable = random.randrange(len(run.file.variables))
+    return variable, any_fit(run, variable)
+
+
+def make(run, faults):
+    """A change with these faults, of which the first refuses it."""
+    lengths = (len(run.file.variables), len(run.values)), (len(run.file.lines), len(run.verdicts))
+    lent = [any_lent(*length, table in faults) for length, table in zip(lengths, ("values", "verdicts"))]
+    found = run.change(*any_numbers(run, faults), *lent)
+    first = next((FAULTS[fault] for fault in FAULTS if fault in faults), None)
+    assert not first or found == first, (faults, found)
+    return found
+
+
+def wander(run, count):
+    """Random changes, some with faults. Without variables each has the number's."""
+    for _ in range(count):
+        faults = [fault for fault in possible_faults(run) if random.random() < 0.08]
+        make(run, faults if run.file.variables else [*faults, "number"])
+    return run
+
+
+def blind(run, count):
+    """Random changes, whatever the constraint file and the tables are."""
+    for _ in range(count):
+        numbers = random.choice((0, 0, 1, MOST)), random.choice((0, 1, 7, MOST))
+        lengths = len(run.values), len(run.verdicts)
+        run.change(*numbers, *(random.choice((0, length, length, random.randint(0, length))) for length in lengths))
+    return run
+
+
+# 01's case whole.
+
+
+def whole_case():
+    run = Run(answers.WHOLE, answers.SET % 1118061216, 3, 1)
+    run.expect(("satisfied", 1, 1, 2), 2, 1117799076)
+    run.expect(("satisfied", 1, 0, 0), 0, 17056)
+    run.expect((18, "call", 0), 0, 2**16)
+    run.expect((23, "call", 0), 3, 0)
+    run.expect(("violated 1", 1, 1, 4), 0, 0)
+    yield wander(run, 60)
+
+
+# Which lines name a variable: none, as the output only, twice, every line. Some names begin alike.
+
+NAMED = b"""v 1.0
+d free:i8 out:i8 every:i8 eve:i8 every1:i8 every2:i1 last:i64 i8:i8
+c out + every 1:i8
+c every & every every
+p ule every every
+c every2 = every eve
+c eve ite every2 eve every
+c every >>l every every1
+c 0:i8 - every every1
+c every %u every1 i8
+p /= every 17:i8
+c every1 + every1 every
+c last zext every
+"""
+NAMING = {"free": 0, "out": 1, "every": 11, "eve": 2, "every1": 4, "every2": 2, "last": 1, "i8": 1}
+
+
+def named_lines():
+    for values in ([0] * 8, [5, 1, 0, 0, 0, 1, 0, 1], any_fitting(NAMED), any_fitting(NAMED)):
+        run = accepted(NAMED, values)
+        for _ in range(12):
+            for variable, lines in enumerate(NAMING.values()):
+                found = run.change(variable, any_fit(run, variable))
+                assert found.named == lines, (variable, found)
+        yield wander(run, 30)
+
+
+# The overall verdict: line i is decided by variable i alone, since 1 / 1 is 1 and 5 / 5 is not 5.
+
+DECIDING = {1: 1, 0: 5, 2: 0}  # by verdict
+
+
+def deciding(count):
+    declared = " ".join(f"x{i}:i8" for i in range(count))
+    return "\n".join(["v 1.0", f"d {declared}", *(f"c x{i} /u x{i} x{i}" for i in range(count))]).encode()
+
+
+def decided_lines():
+    """Lines that become violated or disregarded, most of them to hold again soon."""
+    for count, weights in ((3, (2, 1, 1)), (40, (12, 1, 1)), (40, (8, 1, 0)), (120, (20, 1, 1))):
+        run = accepted(deciding(count), [1] * count)
+        pattern = [1] * count
+        for _ in range(200):
+            wrong = [i for i in range(count) if pattern[i] != 1] or range(count)
+            i = random.choice((random.randrange(count), random.choice(wrong)))
+            (verdict,) = random.choices((1, 0, 2), weights)
+            altered = int(verdict != pattern[i])
+            pattern[i] = verdict
+            found = run.change(i, DECIDING[verdict])
+            assert found[:3] == (answers.overall(pattern), 1, altered), (found, pattern)
+        yield run
+
+
+# Divisors that become zero and other again, and widths, with their edge values.
+
+EDGE_WIDTHS = (1, 8, 63, 64)
+
+
+def at_edge_widths(*lines):
+    """A file of the lines for each edge width, which stands in them as W."""
+    declared = [f"d a{w}:i{w} b{w}:i{w} q{w}:i{w}" for w in EDGE_WIDTHS]
+    return "\n".join(["v 1.0", *declared, *(line.replace("W", str(w)) for line in lines for w in EDGE_WIDTHS)]).encode()
+
+
+def edge_changes(constraint, count, zeros):
+    """Changes to edge values and to values by which lines hold, and that often to zero."""
+    run = accepted(constraint, any_fitting(constraint))
+    for _ in range(count):
+        variable = random.randrange(len(run.file.variables))
+        width = widths(run)[variable]
+        value = random.choice((random.choice(edges(width)), *results(run, variable)))
+        run.change(variable, 0 if random.random() < zeros else value)
+    return wander(run, count // 4)
+
+
+def divisors():
+    for op in DIVISIONS:
+        yield edge_changes(at_edge_widths(f"c qW {op} aW bW"), 100, 0.25)
+        lines = (f"c aW {op} aW aW", f"c bW {op} aW bW", "p ule aW bW", f"c qW {op} qW bW")
+        yield edge_changes(at_edge_widths(*lines), 60, 0.25)
+    always = at_edge_widths("c qW /u aW bW") + b"\nc q8 %s a8 256:i8"
+    yield edge_changes(always, 60, 0.1)
+
+
+def edge_widths():
+    yield edge_changes(at_edge_widths("c qW + aW bW", "p slt aW bW", "p uge bW qW"), 150, 0)
+    yield edge_changes(at_edge_widths("c qW - aW bW", "p sle aW bW", "p /= bW qW", "c aW ~ bW"), 150, 0)
+    yield edge_changes(at_edge_widths("c qW * aW bW", "c aW >>a bW b8", "c bW << aW a8"), 150, 0)
+    yield edge_changes(at_edge_widths(), 100, 0.1)
+    yield edge_changes(at_edge_widths("c qW ite a1 aW bW", "c aW ^ aW aW", "p sgt aW qW", "p ult qW 1:iW"), 150, 0)
+
+
+def bit_counts():
+    """A value of 64 bits that changes in each number of bits."""
+    run = accepted(b"v 1.0\nd x:i64\np ult x 4294967296:i64\n", [0])
+    for bits in range(65):
+        said = ("satisfied", 1, 0, bits) if bits <= 32 else ("violated 1", 1, 1, bits)
+        run.expect(said, 0, 2**bits - 1)
+        run.expect(("satisfied", *said[1:]), 0, 0)
+    yield run
+
+
+# Lent tables.
+
+
+def numbered(count, width):
+    return "".join(f"d x{i}:i{width}\n" for i in range(count))
+
+
+def lent_tables():
+    """Tables that are empty, one entry too short, exactly long enough, and longer; whatever the tables' lengths."""
+    for count, lines, spare in ((3, 2, 5), (1, 1, 0), (2, 0, 3), (0, 2, 3), (1, 40, 9)):
+        constraint = f"v 1.0\n{numbered(count, 8)}" + "p = x0 1:i8\n" * lines
+        constraint = constraint.replace("x0 1:i8", "0:i1 0:i1") if not count else constraint
+        run = Run(constraint.encode(), any_answer(constraint.encode(), [1] * count), count + spare, lines + spare)
+        around = lengths_around(count, count + spare), lengths_around(lines, lines + spare)
+        for (values, verdicts), value in product(product(*around), (0, 1, 256)):
+            short = (values < count and "values") or (verdicts < lines and "verdicts")
+            fault = short or (not count and "number") or (value > 255 and "value")
+            found = run.change(0, value, values, verdicts)
+            assert (found == FAULTS[fault]) if fault else isinstance(found, Changed), (fault, found)
+        yield run
+
+
+def short_whole():
+    """Tables that are too short even whole, so that the check leaves them too."""
+    for values, verdicts in ((2, 2), (3, 1), (2, 1), (0, 0), (300, 1), (1, 1100)):
+        constraint = f"v 1.0\n{numbered(3, 8)}p = x0 1:i8\np = x1 1:i8\n".encode()
+        yield blind(Run(constraint, any_answer(constraint, [1] * 3), values, verdicts), 8)
+
+
+# The order of the refusals: every combination of faults, on tables that an accepted check left, and on tables
+# with their first contents, so that 24 comes last.
+
+UNSET = (b"", b"s UNKNOWN\n", b"s SATISFIABLE", b"s SATISFIABLE\nv x0=1 x0=1", b"v x0=1\ns SATISFIABLE\n")
+
+
+def unchecked(constraint):
+    """A run after a check that the answer refuses."""
+    run = sized(constraint, random.choice(UNSET))
+    assert run.checked.subject == "answer", run.checked
+    return run
+
+
+def every_fault(run, times, last):
+    """Every combination of faults; without any, the change must answer the last."""
+    possible = possible_faults(run)
+    for _ in range(times):
+        for count in range(len(possible) + 1):
+            for faults in combinations(possible, count):
+                found = make(run, faults)
+                assert faults or not last or found == last, found
+    return run
+
+
+def orders():
+    for width, entry in ((8, Refusal(24, "values", 0)), (33, Refusal(24, "verdicts", 0))):
+        constraint = f"v 1.0\n{numbered(4, width)}p = x0 x1\nc x2 %s x3 x0\n".encode()
+        yield every_fault(accepted(constraint, [1, 1, 0, 9]), 5, None)
+        yield wander(every_fault(unchecked(constraint), 5, entry), 60)
+
+
+# Tables with their first contents: 1000003, 2000006, ... and 7 everywhere.
+
+HELD_WIDTHS = [  # the widths of the variables, and the first of them that the first contents don't fit
+    ((19,), 0),
+    ((20,), None),
+    ((20, 20), 1),
+    ((20, 21, 21), 2),
+    ((64, 63, 1, 1), 2),
+    ((1, 64, 64), 0),
+    ((64,) * 10 + (23,), 10),
+    ((64,) * 10 + (24,), None),
+    ((28,) * 255 + (27,), 255),
+    ((28,) * 256, None),
+]
+
+
+def first_contents():
+    """24 for a value, or else for a verdict; without lines the changes are accepted."""
+    for (held, unfit), lines in product(HELD_WIDTHS, ("", "p = x0 x0\n", "c x0 ~ x0\np ule x0 x0\n")):
+        declared = " ".join(f"x{i}:i{width}" for i, width in enumerate(held))
+        run = unchecked(f"v 1.0\nd {declared}\n{lines}".encode())
+        last = Refusal(24, "verdicts", 0) if lines else None
+        last = last if unfit is None else Refusal(24, "values", unfit)
+        every_fault(run, 1, last)
+        for i in sorted({0, unfit or 0, len(held) - 1}):
+            found = run.change(i, any_fit(run, i))
+            assert (found == last) if last else found[:3] == ("satisfied", 0, 0), found
+        yield wander(run, 6)
+
+
+# Files with nothing to change or to renew.
+
+
+def bare_files():
+    """No variables, or two that no line names, and no lines, or some that stay as they are."""
+    heads = (("v 1.0\n", []), ("v 1.0\ne 0\nd a:i8 b:i64\n", [255, MOST]))
+    for (head, values), lines in product(heads, ("", "p = 0:i8 0:i8\n", "p ~ 1:i1\nc 0:i8 /s 1:i8 0:i8\n")):
+        yield wander(accepted((head + lines).encode(), values), 12)
+
+
+# Constraint files that are refused, whatever the change is told and lent.
+
+
+def faulty_constraints():
+    by_number = {}
+    for number, text in constraints.REFUSED + answer_cases.CONSTRAINT_FAULTS:
+        by_number.setdefault(number, []).append(unmarked(text))
+    for number, texts in sorted(by_number.items()):
+        for data, position in random.sample(texts, min(2, len(texts))):
+            run = blind(sized(data, random.choice((*UNSET, b"s SATISFIABLE\n"))), random.randint(1, 6))
+            assert set(run.found) == {Refusal(number, "constraint", position)}, run.found
+            yield run
+
+
+# Sizes. Only these files are longer than 5,000 bytes.
+
+
+def most_variables_and_lines():
+    constraint, values = filled(list(OPERATORS), constraints.LINES, constraints.VARIABLES)
+    constraint += b"\n#"
+    assert len(values) == constraints.VARIABLES and len(constraint) <= constraints.FILE_BYTES
+    answer = any_answer(constraint, values)
+    run = Run(constraint.ljust(constraints.FILE_BYTES), answer, MOST_ENTRIES, MOST_VERDICTS)
+    assert run.checked.overall == "satisfied"
+    return wander(run, 30)
+
+
+def sizes():
+    yield most_variables_and_lines()
+    long_file = (answers.WHOLE + b"#").ljust(65537)
+    yield blind(Run(long_file, answers.SET % 1117799076, 3, 1), 6)
+    long_answer = (answers.SET % 1117799076 + b"c").ljust(65537)
+    yield wander(Run(answers.WHOLE, long_answer, 3, 1), 12)
+
+
+# Random files.
+
+
+class Crowd(Instance):
+    """Lines that hold, over at most so many variables."""
+
+    def __init__(self, most):
+        super().__init__()
+        self.most = most
+
+    def new(self, word):
+        """A new variable that holds the word, or a constant."""
+        return self.declare(word) if len(self.held) < self.most else constant(word)
+
+    def operand(self, width):
+        name = self.find(lambda word: word.width == width)
+        if name and random.random() < 0.7:
+            return name, self.held[name]
+        word = Word(width, any_value(width))
+        return self.new(word), word
+
+    def output(self, word):
+        return self.find(lambda held: held == word) or self.new(word)
+
+
+def filled(ops, lines, most):
+    """A file of so many lines with operators of these and at most so many variables, and values that satisfy it."""
+    crowd = Crowd(most)
+    while len(crowd.lines) < lines:
+        crowd.add(random.choice(ops))
+    return crowd.spelling()
+
+
+def any_filled():
+    return filled(list(OPERATORS), random.choice((1, 2, 4, 8, 15, 30)), random.choice((2, 5, 9, 30)))
+
+
+def each_operator():
+    for op in OPERATORS:
+        yield wander(accepted(*filled([op], random.randint(2, 6), 6)), 110)
+
+
+def random_runs():
+    counts = (1, 2, 3, 40, 80, 120, 200, 300)
+    for i in range(72):
+        constraint, values = any_filled()
+        others = random.choice((values, nearly(constraint, values), any_fitting(constraint), [0] * len(values)))
+        yield wander(accepted(constraint, others), counts[i % len(counts)])
+
+
+def mutated_runs():
+    """A byte or a token of a file is other, so that most of the checks are refused."""
+    for _ in range(12):
+        constraint, values = any_filled()
+        yield wander(sized(constraint, mutated(any_answer(constraint, values))), 20)
+        yield blind(sized(mutated(constraint), any_answer(constraint, values)), 5)
+
+
+# The corpus.
+
+GROUPS = [whole_case, named_lines, decided_lines, divisors, edge_widths, bit_counts, lent_tables, short_whole]
+GROUPS += [orders, first_contents, bare_files, faulty_constraints, sizes, each_operator, random_runs, mutated_runs]
+
+# Every refusal that a change can give: by subject, the numbers.
+REFUSALS = {"constraint": {*range(1, 16)}, "values": {21, 24}, "verdicts": {21, 24}, "call": {18, 23}}
+MOST_STDIN = 2000000
+
+
+def kind(found):
+    """An answer without its counts and positions."""
+    if isinstance(found, Refusal):
+        return "refused {} {}".format(*found)
+    return found.overall.split()[0]
+
+
+def assert_complete(runs):
+    """That every answer is given, and that the counts reach their ends."""
+    found = [answer for run in runs for answer in run.found]
+    refusals = {(answer.subject, answer.number) for answer in found if isinstance(answer, Refusal)}
+    assert refusals == {(subject, number) for subject, numbers in REFUSALS.items() for number in numbers}
+    assert {answer.bits for answer in found if isinstance(answer, Changed)} == {*range(65)}
+    assert sum(max(len(run.constraint), len(run.answer)) > 5000 for run in runs) <= 3
+
+
+def show(title, counter):
+    print(f"{title}: {counter.total()}")
+    for answer, count in sorted(counter.items()):
+        print(f"  {answer:22} {count}")
+
+
+def main(folder):
+    changes.self_test()
+    runs = [run for group in GROUPS for run in group()]
+    for run in runs:
+        if run.model:
+            run.assert_fresh()
+    assert_complete(runs)
+    stdin = b"".join(run.stdin() for run in runs)
+    assert len(stdin) < MOST_STDIN, len(stdin)
+    Path(folder, "stdin").write_bytes(stdin)
+    Path(folder, "stdout").write_bytes(b"".join(run.stdout() for run in runs))
+    show("runs, by the check's answer", Counter(kind(run.checked) for run in runs))
+    show("changes, by answer", Counter(kind(answer) for run in runs for answer in run.found))
+    after = Counter("checked" if run.model else "unchecked" for run in runs for _ in run.found)
+    show("changes, by whether the check was accepted", after)
+
+
+if __name__ == "__main__":
+    if len(sys.argv) != 2:
+        sys.exit(__doc__)
+    main(sys.argv[1])

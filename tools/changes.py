@@ -1,0 +1,184 @@
+#!/usr/bin/env python3
+"""The single-value change and demand 3's plain model, by document 01 and apart from the Rattle code.
+
+change(constraint, values, verdicts, variable, value) gives the Changed that a change answers which is lent
+these two tables, or its Refusal; accepted, it overwrites the tables in place. Model(file, row) is the plain
+model, which holds a row of values and nothing else. `--self-test` checks both on cases worked out by hand.
+"""
+import sys
+from collections import namedtuple
+
+sys.dont_write_bytecode = True  # no __pycache__ in the repository
+import answers
+import checks
+from answers import WHOLE, Refusal
+from constraints import Variable
+
+Changed = namedtuple("Changed", "overall named altered bits")
+
+
+# The change. Each test gives its refusal, or None.
+
+
+def short_table(file, values, verdicts):
+    if len(values) < len(file.variables):
+        return Refusal(21, "values", 0)
+    if len(verdicts) < len(file.lines):
+        return Refusal(21, "verdicts", 0)
+    return None
+
+
+def unfit_number(file, variable, value):
+    """23 or 18, which speak of the call's own numbers."""
+    widths = list(file.variables.values())
+    if variable >= len(widths):
+        return Refusal(23, "call", 0)
+    if value >= 2 ** widths[variable]:
+        return Refusal(18, "call", 0)
+    return None
+
+
+def unfit_entry(file, values, verdicts):
+    """24 for the first entry in use that can't be held."""
+    for i, (value, width) in enumerate(zip(values, file.variables.values())):
+        if value >= 2**width:
+            return Refusal(24, "values", i)
+    for i, (verdict, _) in enumerate(zip(verdicts, file.lines)):
+        if verdict > 2:
+            return Refusal(24, "verdicts", i)
+    return None
+
+
+def is_named(line, name):
+    """Whether the line has the variable as its output or an operand."""
+    return any(isinstance(token, Variable) and token.name == name for token in (line.output, *line.operands))
+
+
+def renew(file, values, verdicts, numbers):
+    """Renews the verdicts of the lines of these numbers, and counts those that become different."""
+    altered = 0
+    for i in numbers:
+        renewed = answers.verdict(file, file.lines[i], values)
+        altered += renewed != verdicts[i]
+        verdicts[i] = renewed
+    return altered
+
+
+def change(constraint, values, verdicts, variable, value):
+    """Refused in this order: constraint file, 21, 23, 18, 24."""
+    file = answers.read_constraint(constraint)
+    if isinstance(file, Refusal):
+        return file
+    refusal = short_table(file, values, verdicts) or unfit_number(file, variable, value)
+    refusal = refusal or unfit_entry(file, values, verdicts)
+    if refusal:
+        return refusal
+    flipped = values[variable] ^ value
+    values[variable] = value
+    name = list(file.variables)[variable]
+    named = [i for i, line in enumerate(file.lines) if is_named(line, name)]
+    altered = renew(file, values, verdicts, named)
+    return Changed(answers.overall(verdicts[: len(file.lines)]), len(named), altered, flipped.bit_count())
+
+
+def outcome(found):
+    """What a change answers, as one line."""
+    if isinstance(found, Refusal):
+        return checks.outcome(found)
+    return "{} named {} altered {} bits {}\n".format(*found)
+
+
+# The plain model.
+
+
+class Model:
+    """A row of values in declaration order, for a file that stays the same."""
+
+    def __init__(self, file, row):
+        self.file = file
+        self.row = list(row)
+
+    def verdicts(self):
+        """The row's verdicts, worked out anew for every line."""
+        return answers.all_verdicts(self.file, self.row)
+
+    def refusal(self, variable, value, lent):
+        """Why a change is refused that is lent tables of these lengths, or None."""
+        in_use = {"values": len(self.row), "verdicts": len(self.file.lines)}
+        short = [table for table in in_use if lent[table] < in_use[table]]
+        if short:
+            return Refusal(21, short[0], 0)
+        if variable not in range(len(self.row)):
+            return Refusal(23, "call", 0)
+        if value.bit_length() > self.declared(variable).width:
+            return Refusal(18, "call", 0)
+        return None
+
+    def declared(self, variable):
+        return Variable(*list(self.file.variables.items())[variable])
+
+    def change(self, variable, value, values_lent, verdicts_lent):
+        """What the change answers: by the file, the rows before and after and their verdicts."""
+        refusal = self.refusal(variable, value, {"values": values_lent, "verdicts": verdicts_lent})
+        if refusal:
+            return refusal
+        old, before = self.row[variable], self.verdicts()
+        self.row = [value if i == variable else held for i, held in enumerate(self.row)]
+        after = self.verdicts()
+        named = [line for line in self.file.lines if self.declared(variable) in (line.output, *line.operands)]
+        altered = [pair for pair in zip(before, after) if pair[0] != pair[1]]
+        bits = [place for place in range(64) if old // 2**place % 2 != value // 2**place % 2]
+        return Changed(answers.overall(after), len(named), len(altered), len(bits))
+
+
+# Cases worked out by hand. Before each run of changes: a file, the tables lent, and the row of a model that goes
+# along, or None. A change is a variable, a value, what is answered, and both tables after it.
+
+DIVIDED = b"v 1.0\nd q:i8 a:i8 b:i8 x:i64\nc q /u a b\np ule a a\np = b 0:i8\n"
+ROW = [3, 7, 2, 5]
+BY_HAND = [
+    (WHOLE, [17056, 17060, 1118061216], [0], [17056, 17060, 1118061216], [
+        (2, 1117799076, ("satisfied", 1, 1, 2), [17056, 17060, 1117799076], [1]),
+        (2, 1117799076, ("satisfied", 1, 0, 0), [17056, 17060, 1117799076], [1]),
+        (0, 2**16, (18, "call", 0), [17056, 17060, 1117799076], [1]),
+        (1, 17061, ("violated 1", 1, 1, 1), [17056, 17061, 1117799076], [0]),
+    ]),
+    (DIVIDED, ROW, [1, 1, 0], ROW, [
+        (2, 0, ("disregarded 1", 2, 2, 1), [3, 7, 0, 5], [2, 1, 1]),
+        (1, 248, ("disregarded 1", 2, 0, 8), [3, 248, 0, 5], [2, 1, 1]),
+        (3, 2**64 - 1, ("disregarded 1", 0, 0, 62), [3, 248, 0, 2**64 - 1], [2, 1, 1]),
+        (2, 82, ("violated 3", 2, 2, 3), [3, 248, 82, 2**64 - 1], [1, 1, 0]),
+    ]),
+    (DIVIDED, [3, 7, 2, 5, 2**64 - 1], [1, 1, 0, 7], ROW, [
+        (4, 2**64 - 1, (23, "call", 0), [3, 7, 2, 5, 2**64 - 1], [1, 1, 0, 7]),
+        (0, 4, ("violated 1", 1, 1, 3), [4, 7, 2, 5, 2**64 - 1], [0, 1, 0, 7]),
+    ]),
+    (DIVIDED, [3, 7, 2], [7], ROW, [(9, 2**64 - 1, (21, "values", 0), [3, 7, 2], [7])]),
+    (DIVIDED, ROW, [1, 1], ROW, [(9, 2**64 - 1, (21, "verdicts", 0), ROW, [1, 1])]),
+    (DIVIDED, [3, 256, 257, 5], [3, 1, 0], None, [
+        (0, 256, (18, "call", 0), [3, 256, 257, 5], [3, 1, 0]),
+        (1, 7, (24, "values", 1), [3, 256, 257, 5], [3, 1, 0]),
+    ]),
+    (DIVIDED, ROW, [1, 3, 9], None, [(0, 3, (24, "verdicts", 1), ROW, [1, 3, 9])]),
+    (DIVIDED, ROW, [2, 0, 0], None, [(0, 3, ("violated 2", 1, 1, 0), ROW, [1, 0, 0])]),
+    (b"", [], [], None, [(0, 0, (4, "constraint", 0), [], [])]),
+]  # fmt: skip
+
+
+def self_test():
+    for constraint, values, verdicts, row, run in BY_HAND:
+        model = row and Model(answers.read_constraint(constraint), row)
+        values, verdicts = list(values), list(verdicts)
+        for variable, value, said, *tables in run:
+            found = change(constraint, values, verdicts, variable, value)
+            assert (found, [values, verdicts]) == (said, tables), (constraint, variable, value, found)
+            if model:
+                found = model.change(variable, value, len(values), len(verdicts))
+                assert found == said, (constraint, variable, value, found)
+
+
+if __name__ == "__main__":
+    if sys.argv[1:] != ["--self-test"]:
+        sys.exit(f"usage: {sys.argv[0]} --self-test")
+    self_test()
+    print(f"{sum(len(run) for *_, run in BY_HAND)} changes are as worked out by hand")
