@@ -10,9 +10,10 @@
 #include <stdbool.h>
 #include <stdio.h>
 #include <stdlib.h>
+#include <string.h>
 #include <time.h>
 
-enum { FILE_BYTES = 65536, VARIABLES = 256, GROUP = 8, OPERANDS = 3, ROUNDS = 15 };
+enum { FILE_BYTES = 65536, VARIABLES = 256, LINES = 1024, GROUP = 8, OPERANDS = 3, ROUNDS = 15 };
 static const double MEASUREMENT_SECONDS = 0.1;
 
 static void fail(const char *why)
@@ -381,6 +382,65 @@ static void report(const struct input *input)
     printf("\n");
 }
 
+/* Flips: the first variable, of width 1, from 0 to 1 and back, in tables that a check filled. */
+
+static uint64_t values[VARIABLES];
+static uint8_t verdicts[LINES];
+
+static uint32_t check_tables(const uint8_t *constraints, size_t constraints_len,
+                             const uint8_t *answer, size_t answer_len)
+{
+    return SPEAR_KIND(spear_check_tables(constraints, constraints_len, answer, answer_len, values,
+                                         VARIABLES, verdicts, LINES));
+}
+
+static uint32_t flip(const uint8_t *constraints, size_t constraints_len, const uint8_t *answer,
+                     size_t answer_len)
+{
+    (void)answer, (void)answer_len;
+    uint64_t word = spear_change(constraints, constraints_len, values, VARIABLES, verdicts, LINES, 0,
+                                 values[0] ^ 1);
+    return SPEAR_KIND(word) == SPEAR_KIND_REFUSED;
+}
+
+static uint32_t plain_flip(const uint8_t *constraints, size_t constraints_len, const uint8_t *answer,
+                           size_t answer_len)
+{
+    (void)answer, (void)answer_len;
+    return plain_change(constraints, constraints_len, values, verdicts, 0, values[0] ^ 1) >= 100;
+}
+
+/* A flip by one program and then by the other must leave the verdicts as the first check did. */
+static void compare_flips(const struct files *files)
+{
+    static uint8_t before[LINES];
+    memcpy(before, verdicts, sizeof before);
+    if (reply_of(flip, files) != 0 || reply_of(plain_flip, files) != 0)
+        fail("a flip is refused");
+    if (memcmp(before, verdicts, sizeof before) != 0)
+        fail("the flips differ");
+}
+
+static void report_flips(const struct input *input)
+{
+    static struct files files;
+    make_files(&files, input);
+    if (reply_of(check_tables, &files) != 0)
+        fail("the check isn't satisfied");
+    compare_flips(&files);
+    struct measurement check = {check_tables, enough_repetitions(check_tables, &files), 0};
+    struct measurement spear = {flip, enough_repetitions(flip, &files), 0};
+    struct measurement plain = {plain_flip, enough_repetitions(plain_flip, &files), 0};
+    for (int round = 0; round < ROUNDS; round++) {
+        measure(&check, &files);
+        measure(&spear, &files);
+        measure(&plain, &files);
+    }
+    printf("%-26s check %.1f us, flip %.1f us (%.2f of the check), plain flip %.1f us (ratio %.2f)\n",
+           input->name, 1e6 * check.best, 1e6 * spear.best, spear.best / check.best,
+           1e6 * plain.best, spear.best / plain.best);
+}
+
 int main(void)
 {
     static const struct input inputs[] = {
@@ -396,4 +456,7 @@ int main(void)
            "plain us", "ratio", "spear ns/B", "plain ns/B");
     for (size_t i = 0; i < sizeof inputs / sizeof *inputs; i++)
         report(&inputs[i]);
+    const struct input flips[] = {inputs[4], inputs[5]};
+    for (size_t i = 0; i < sizeof flips / sizeof *flips; i++)
+        report_flips(&flips[i]);
 }

@@ -692,3 +692,48 @@ uint32_t plain_check(const uint8_t *constraints, size_t constraints_len,
         return REFUSED + refusal;
     return verdict(&problem);
 }
+
+/* The change of a value. */
+
+static bool names(const struct line *line, int variable)
+{
+    bool found = line->output.variable == variable;
+    for (int i = 0; i < operand_counts[line->operator]; i++)
+        found |= line->operands[i].variable == variable;
+    return found;
+}
+
+/* The byte of a verdict in a caller's table. */
+static uint8_t verdict_byte(uint32_t verdict)
+{
+    static const uint8_t bytes[] = {[SATISFIED] = 1, [VIOLATED] = 0, [DISREGARDED] = 2};
+    return bytes[verdict];
+}
+
+static uint32_t overall(const uint8_t *verdicts, size_t count)
+{
+    uint32_t worst = SATISFIED;
+    for (size_t i = 0; i < count && worst != DISREGARDED; i++)
+        if (verdicts[i] == 2)
+            worst = DISREGARDED;
+        else if (verdicts[i] == 0)
+            worst = VIOLATED;
+    return worst;
+}
+
+uint32_t plain_change(const uint8_t *constraints, size_t constraints_len, uint64_t *values,
+                      uint8_t *verdicts, size_t variable, uint64_t value)
+{
+    struct problem problem;
+    memset(&problem, 0, offsetof(struct problem, variables));
+    enum refusal refusal = read_constraints(&problem, constraints, constraints_len);
+    if (refusal)
+        return REFUSED + refusal;
+    values[variable] = value;
+    for (size_t i = 0; i < problem.variable_count; i++)
+        problem.variables[i].value = values[i];
+    for (size_t i = 0; i < problem.line_count; i++)
+        if (names(&problem.lines[i], (int)variable))
+            verdicts[i] = verdict_byte(line_verdict(&problem, &problem.lines[i]));
+    return overall(verdicts, problem.line_count);
+}

@@ -8,4 +8,9 @@
 uint32_t plain_check(const uint8_t *constraints, size_t constraints_len,
                      const uint8_t *answer, size_t answer_len);
 
+/* Changes a value in tables that a check of the file left, and renews the verdicts of the lines that
+   name the variable; the overall verdict in the same way. */
+uint32_t plain_change(const uint8_t *constraints, size_t constraints_len, uint64_t *values,
+                      uint8_t *verdicts, size_t variable, uint64_t value);
+
 #endif

@@ -1,9 +1,19 @@
-// The check for C programs. include/spear.h has its declaration.
+// The calls for C programs. include/spear.h has their declarations.
 use judge::Overall;
+use packing::pack_change;
+use packing::pack_check;
 use tables::Report;
+use tables::change::change;
+use tables::check::check;
 use tables::reports::report;
 ghost use mathlib.Core.Path.{_≡_};
+ghost use Rattle.tables.specs.Check.{checkOutcome};
+ghost use Rattle.tables.specs.Change.{changeOutcome};
 ghost use Rattle.spear.specs.Code.{codeOfOverall, codeOf, checkCode};
+ghost use Rattle.spear.specs.Pack.{packedCheck, packedChange};
+
+pub mod claims;
+mod packing;
 
 const SATISFIED: u32 = 0;
 
@@ -39,4 +49,31 @@ pub extern "C" fn spear_check(constraints: &[u8], answer: &[u8]) -> u32
     ensures { λ r. ⌜ r ≡ checkCode (now (constraints .entry)) (now (answer .entry)) ⌝ }
 {
     code_of(report(constraints, answer))
+}
+
+// The check into the caller's tables.
+#[no_mangle]
+pub extern "C" fn spear_check_tables(
+    constraints: &[u8],
+    answer: &[u8],
+    values: &mut [u64],
+    verdicts: &mut [u8],
+) -> u64
+    ensures { λ r. ⌜ record { word = r; values = now (values .exit); verdicts = now (verdicts .exit) } ≡ packedCheck (checkOutcome (now (constraints .entry)) (now (answer .entry)) (now (values .entry)) (now (verdicts .entry))) ⌝ }
+{
+    pack_check(check(constraints, answer, values, verdicts))
+}
+
+// The change of a variable, from 0, to a value, on the caller's tables.
+#[no_mangle]
+pub extern "C" fn spear_change(
+    constraints: &[u8],
+    values: &mut [u64],
+    verdicts: &mut [u8],
+    variable: usize,
+    value: u64,
+) -> u64
+    ensures { λ r. ⌜ record { word = r; values = now (values .exit); verdicts = now (verdicts .exit) } ≡ packedChange (changeOutcome (now (constraints .entry)) (now (values .entry)) (now (verdicts .entry)) variable value) ⌝ }
+{
+    pack_change(change(constraints, values, verdicts, variable, value))
 }

@@ -1,0 +1,80 @@
+-- Every reply is in range, so its word loses nothing of it. Assumes nothing.
+use Prim.Native.Nat.{ℕ, _≤_}
+use mathlib.Core.Path.{_≡_, refl}
+use mathlib.Core.List.{List}
+use native.Mathlib.Omega.{arith}
+use lib.ListN.{length, getD, set, length-take}
+use Rattle.edition.specs.Edition.{maxWidth}
+use Rattle.refusal.specs.Result.{Result, accepted, refused}
+use Rattle.constraint.specs.File.{File}
+use Rattle.constraint.specs.Read.{readFile}
+use Rattle.constraint.specs.Claims.{SoundFile}
+use Rattle.constraint.proofs.SoundLaws.{accepted-is-sound}
+use Rattle.judge.specs.declared.Overall.{Overall}
+use Rattle.judge.specs.declared.Overall.the-variants.{Satisfied, Violated, Disregarded}
+use Rattle.judge.specs.Judge.{freshVerdicts, overall}
+use Rattle.judge.specs.InUse.{rowInUse, verdictsInUse}
+use Rattle.judge.proofs.VerdictLaws.{verdicts-length}
+use Rattle.judge.proofs.OverallLaws.{Named, overall-named}
+use Rattle.tables.specs.Check.{checking, checked, checkOutcome}
+use Rattle.tables.specs.Change.{names, renewed, changingFor, accept, changed, changeBy, changeOutcome}
+use Rattle.tables.proofs.CheckingLaws.{checking-steps}
+use Rattle.tables.proofs.RenewLaws.{renewed-length}
+use Rattle.tables.proofs.GateLaws.{Passed, changing-passed}
+use Rattle.spear.specs.Pack.{lineOf, CheckKept, ChangeKept}
+use Rattle.spear.proofs.PackLaws.{CheckFits, ChangeFits, check-back, change-back}
+use Rattle.spear.proofs.MostLaws.{many-most, differing-most, bits-most}
+use Rattle.spear.proofs.RefusalFitsLaws.{file-fits, checking-fits, changing-fits}
+
+-- ---- the line of an overall verdict
+named-most : (o : Overall) (vs : List ℕ) → Named o vs → lineOf o ≤ length vs
+named-most Satisfied vs p = omega arith
+named-most (Violated n) vs p = p .to
+named-most (Disregarded n) vs p = p .to
+
+line-most : (vs : List ℕ) → lineOf (overall vs) ≤ length vs
+line-most vs = named-most (overall vs) vs (overall-named vs)
+
+-- ---- the check
+module _ (constraint answer values verdicts : List ℕ) where
+  checked-fits : (r : Result (File × List ℕ)) → checking constraint answer values verdicts ≡ r → CheckFits (checked values verdicts r .reply)
+  checked-fits (accepted (f, row)) e =
+      let sound = accepted-is-sound constraint f (checking-steps constraint answer values verdicts f row e .file) in
+      omega (arith, line-most (freshVerdicts f row), verdicts-length (f .variables) row (f .lines), sound .few-lines)
+  checked-fits (refused x) e = checking-fits constraint answer values verdicts .holds x e
+
+  pub check-fits : CheckFits (checkOutcome constraint answer values verdicts .reply)
+  check-fits = checked-fits (checking constraint answer values verdicts) refl
+
+-- ---- the change
+module _ (values verdicts : List ℕ) (i v : ℕ) where
+  accept-fits : (f : File) → SoundFile f → Passed f values verdicts i v → ChangeFits (accept f values verdicts i v .reply)
+  unfolding accept
+  accept-fits f sound p =
+      let row = rowInUse f values in
+      let before = verdictsInUse f verdicts in
+      let after = renewed f (set row i v) i verdicts in
+      record {
+        line = omega (arith, line-most after, renewed-length f (set row i v) i verdicts (p .verdicts-room), sound .few-lines);
+        named = omega (arith, many-most (names i) (f .lines), sound .few-lines);
+        altered = omega (arith, differing-most before after, length-take (length (f .lines)) verdicts, sound .few-lines);
+        bits = omega (arith, bits-most maxWidth (getD row i 0) v);
+      }
+
+  changed-fits : (f : File) → SoundFile f → (r : Result (Unit {0})) → changingFor f values verdicts i v ≡ r → ChangeFits (changed f values verdicts i v r .reply)
+  changed-fits f sound (accepted tt) e = accept-fits f sound (changing-passed f values verdicts i v e)
+  changed-fits f sound (refused x) e = changing-fits f sound values verdicts i v .holds x e
+
+  by-fits : (constraint : List ℕ) (r : Result File) → readFile constraint ≡ r → ChangeFits (changeBy r values verdicts i v .reply)
+  by-fits constraint (accepted f) e = changed-fits f (accepted-is-sound constraint f e) (changingFor f values verdicts i v) refl
+  by-fits constraint (refused x) e = file-fits constraint .holds x e
+
+  pub change-fits : (constraint : List ℕ) → ChangeFits (changeOutcome constraint values verdicts i v .reply)
+  change-fits constraint = by-fits constraint (readFile constraint) refl
+
+-- ---- nothing is lost
+pub check-kept : CheckKept
+check-kept constraint answer values verdicts = check-back (checkOutcome constraint answer values verdicts .reply) (check-fits constraint answer values verdicts)
+
+pub change-kept : ChangeKept
+change-kept constraint values verdicts i v = change-back (changeOutcome constraint values verdicts i v .reply) (change-fits values verdicts i v constraint)

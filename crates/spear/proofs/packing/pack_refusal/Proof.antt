@@ -1,0 +1,19 @@
+use borrow.Author.Needs.{needs}
+use Rattle.spear.proofs.packing.pack_refusal.Statement.{statement}
+use Rattle.spear.proofs.packing.pack_refusal.Tie as tie
+
+cast-refusal-word : tie.Need-cast-refusal-word
+cast-refusal-word c = search needs
+
+number-requires : tie.Need-number-requires
+number-requires c κs = search needs
+
+refusal-word-requires : tie.Need-refusal-word-requires
+refusal-word-requires c κs = search needs
+
+returns : tie.Need-returns
+returns c = rw (← c .before .number .ensures) (c .refusal-word .ensures)
+
+pub pack-refusal-spec : {M : Type 1} → statement M
+pack-refusal-spec =
+    tie.close (tie.spec cast-refusal-word number-requires refusal-word-requires returns)

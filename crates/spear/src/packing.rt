@@ -1,0 +1,112 @@
+// A reply as one word.
+use judge::Overall;
+use refusal::Refusal;
+use refusal::Subject;
+use tables::ChangeReply;
+use tables::CheckReply;
+ghost use mathlib.Core.Path.{_≡_};
+ghost use Prim.Native.Nat.{_<_};
+ghost use Rattle.spear.specs.Pack.{verdictWord, refusalWord, kindOf, lineOf, numberOf, packRefusal, packCheck, packChange};
+
+// The sizes of the parts: a byte, a number, a position.
+const BYTE: u64 = 1 << 8;
+
+const NUMBER: u64 = 1 << 16;
+
+const POSITION: u64 = 1 << 40;
+
+// Where a part starts, as what it is multiplied by.
+const AT_8: u64 = 1 << 8;
+
+const AT_16: u64 = 1 << 16;
+
+const AT_24: u64 = 1 << 24;
+
+const AT_40: u64 = 1 << 40;
+
+const AT_56: u64 = 1 << 56;
+
+// The kind of a refusal.
+const REFUSED: u64 = 3;
+
+fn verdict_word(kind: u64, line: u64, named: u64, altered: u64, bits: u64) -> u64
+    requires { ⌜ kind < 256 ⌝ }
+    ensures { λ r. ⌜ r ≡ verdictWord kind line named altered bits ⌝ }
+{
+    kind
+        + line % NUMBER * AT_8
+        + named % NUMBER * AT_24
+        + altered % NUMBER * AT_40
+        + bits % BYTE * AT_56
+}
+
+fn refusal_word(number: u64, subject: u64, position: u64) -> u64
+    ensures { λ r. ⌜ r ≡ refusalWord number subject position ⌝ }
+{
+    REFUSED + number % BYTE * AT_8 + subject % BYTE * AT_16 + position % POSITION * AT_24
+}
+
+fn kind(overall: Overall) -> u64
+    ensures { λ r. ⌜ (r ≡ kindOf overall) × (r < 256) ⌝ }
+{
+    match overall {
+        Overall::Satisfied => 0,
+        Overall::Violated(_) => 1,
+        Overall::Disregarded(_) => 2,
+    }
+}
+
+fn line(overall: Overall) -> u64
+    ensures { λ r. ⌜ r ≡ lineOf overall ⌝ }
+{
+    match overall {
+        Overall::Satisfied => 0,
+        Overall::Violated(n) => n as u64,
+        Overall::Disregarded(n) => n as u64,
+    }
+}
+
+fn number(subject: Subject) -> u64
+    ensures { λ r. ⌜ r ≡ numberOf subject ⌝ }
+{
+    match subject {
+        Subject::Constraint => 0,
+        Subject::Answer => 1,
+        Subject::Values => 2,
+        Subject::Verdicts => 3,
+        Subject::Output => 4,
+        Subject::Call => 5,
+    }
+}
+
+fn pack_refusal(refusal: Refusal) -> u64
+    ensures { λ r. ⌜ r ≡ packRefusal refusal ⌝ }
+{
+    let subject = refusal.subject;
+    refusal_word(
+        refusal.number as u64,
+        number(subject),
+        refusal.position as u64,
+    )
+}
+
+pub(crate) fn pack_check(reply: CheckReply) -> u64
+    ensures { λ r. ⌜ r ≡ packCheck reply ⌝ }
+{
+    match reply {
+        CheckReply::Checked(o) => verdict_word(kind(o), line(o), 0, 0, 0),
+        CheckReply::Refused(r) => pack_refusal(r),
+    }
+}
+
+pub(crate) fn pack_change(reply: ChangeReply) -> u64
+    ensures { λ r. ⌜ r ≡ packChange reply ⌝ }
+{
+    match reply {
+        ChangeReply::Changed(e) => {
+            let o = e.overall;
+            verdict_word(kind(o), line(o), e.named as u64, e.altered as u64, e.bits)
+        }
+        ChangeReply::Refused(r) => pack_refusal(r),
+    }
+}
