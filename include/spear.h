@@ -5,7 +5,7 @@
  *
  * Nothing is asked of what a call is lent: any bytes, any numbers, any lengths.
  * A pointer may be null only where its length is 0. The calls keep no state, so
- * threads may make them at the same time. Each needs some 85 KB of stack.
+ * threads may make them at the same time. Each needs some 90 KB of stack.
  */
 #ifndef SPEAR_H
 #define SPEAR_H
