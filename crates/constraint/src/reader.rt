@@ -17,17 +17,22 @@ use edition::Edition;
 use refusal::Refusal;
 use text::Class;
 use text::scan::all;
+use text::scan::allowed;
 use text::scan::leads;
 use text::scan::next_line;
-use text::scan::scan;
 ghost use mathlib.Core.Path.{_≡_};
+ghost use mathlib.Core.Bool.{true, not, _&&_};
 ghost use mathlib.Core.List.{List};
 ghost use Prim.Native.Nat.{ℕ, _<_, _≤_};
-ghost use lib.ListN.{length, take, drop};
+ghost use lib.Dec.{eqb, ltb};
+ghost use lib.ListN.{length, getD, take, drop};
 ghost use Rattle.edition.specs.Edition.{maxLines};
+ghost use Rattle.refusal.specs.Lists.{every};
 ghost use Rattle.refusal.specs.declared.Subject.the-variants.{Constraint as TheConstraint};
 ghost use Rattle.text.specs.Lines.{lines as linesOf};
 ghost use Rattle.text.specs.Reading.{readAnyLine, readLines};
+ghost use Rattle.text.specs.declared.Class.the-variants.{Allowed};
+ghost use Rattle.text.specs.Scan.{isOf};
 ghost use Rattle.constraint.specs.File.{emptyFile};
 ghost use Rattle.constraint.specs.Tables.{tableWords};
 ghost use Rattle.constraint.specs.Read.{kindOf, addLine, readLine, readFile};
@@ -121,7 +126,7 @@ fn read_line(
     }
 }
 
-// Reads any line: a byte that is not allowed is found first, and a blank line is passed over.
+// Reads any line whose bytes are allowed: a blank line is passed over.
 fn read_any_line(
     file: &[u8],
     stop: usize,
@@ -132,17 +137,24 @@ fn read_any_line(
     lines: &mut [u64; TABLE_WORDS],
     p: Progress,
 ) -> Step
-    requires { ⌜ (at ≤ stop) × (stop ≤ length (now file)) × InTables p × Whole (held (now starts) (now lens) (now widths) (now lines)) ⌝ }
+    requires { ⌜ (at ≤ stop) × (stop ≤ length (now file)) × InTables p × Whole (held (now starts) (now lens) (now widths) (now lines)) × (every (isOf Allowed) (drop at (take stop (now file))) ≡ true) ⌝ }
     ensures { λ r. ⌜ ((next : ℕ) → stepResult (now (file .entry)) (held (now (starts .exit)) (now (lens .exit)) (now (widths .exit)) (now (lines .exit))) r ≡ readAnyLine TheConstraint readLine (fileHeld (now (file .entry)) (held (now (starts .entry)) (now (lens .entry)) (now (widths .entry)) (now (lines .entry))) p) (lineAt (take stop (now (file .entry))) at next)) × Whole (held (now (starts .exit)) (now (lens .exit)) (now (widths .exit)) (now (lines .exit))) × StepInTables r ⌝ }
 {
-    let bad = scan(&file[..stop], at, Class::Allowed);
-    if bad < stop {
-        return Step::Stop(refusal(Refusal::BYTE_NOT_ALLOWED, bad));
-    }
     if all(&file[..stop], at, Class::Space) {
         return Step::Next(p);
     }
     read_line(file, stop, at, starts, lens, widths, lines, p)
+}
+
+// Whether a byte stands at `stop` that does not end a line.
+fn faulty(file: &[u8], stop: usize) -> bool
+    ensures { λ r. ⌜ r ≡ (ltb stop (length (now (file .entry))) && not (eqb (getD (now (file .entry)) stop 0) 10)) ⌝ }
+{
+    if stop < file.len() {
+        file[stop] != b'\n'
+    } else {
+        false
+    }
 }
 
 // Nothing read yet.
@@ -157,7 +169,7 @@ fn nothing() -> Progress
     }
 }
 
-// Reads all lines.
+// Reads all lines. A byte that is not allowed is found with the line's end: LF is none of the allowed bytes.
 fn read_lines(
     file: &[u8],
     starts: &mut [usize; Edition::VARIABLES],
@@ -171,7 +183,10 @@ fn read_lines(
     let mut p = nothing();
     let mut i = 0;
     while i < file.len() {
-        let stop = scan(file, i, Class::Until(b'\n'));
+        let stop = allowed(file, i);
+        if faulty(file, stop) {
+            return Step::Stop(refusal(Refusal::BYTE_NOT_ALLOWED, stop));
+        }
         let next = next_line(file, stop);
         match read_any_line(file, stop, i, starts, lens, widths, lines, p) {
             Step::Stop(r) => {

@@ -9,13 +9,14 @@ use native.Mathlib.Omega.{arith}
 use lib.ListN.{length, getD, take, drop, length-take, length-drop, drop-of-length-le}
 use lib.Dec.{eqb}
 use lib.Seq.{drop-cons, drop-drop}
+use borrow.Author.Tests.{ne-eqb}
 use Rattle.refusal.specs.Lists.{every}
 use Rattle.refusal.proofs.ResultLaws.{never}
 use Rattle.text.specs.Bytes.{run, isLineFeed, isSpace, isAllowed}
 use Rattle.text.specs.Lines.{TextLine, lineEnd, lineOf, linesFrom, tokensFrom, arguments, leads}
 use Rattle.text.specs.declared.Class.the-variants.{Until, Space, Allowed}
 use Rattle.text.specs.Scan.{isOf, past}
-use Rattle.text.proofs.RunLaws.{past-ge, run-part, every-end, scan-place, scan-all, scan-not}
+use Rattle.text.proofs.RunLaws.{past-ge, run-part, every-end, scan-place, scan-all, scan-not, strict-every, strict-same}
 
 abbrev inLine : ℕ → Bool
 inLine b = not (isLineFeed b)
@@ -102,6 +103,30 @@ module _ (line : List ℕ) (at m : ℕ) (h : at ≤ length line) where
     pub blank-not : m < length line → every isSpace (drop at line) ≡ false
     unfolding isOf
     blank-not = scan-not isSpace line at m h hm
+
+-- a byte that is allowed, and any other than LF, does not end a line
+pub other-in-line : (b : ℕ) → (b ≡ 10 → ⊥) → isOf (Until 10) b ≡ true
+unfolding isOf
+other-in-line b k = rw (ne-eqb b 10 k)
+
+feed-not-allowed : isOf Allowed 10 ≡ false
+unfolding isOf isAllowed
+feed-not-allowed = refl
+
+feed-ends : isOf (Until 10) 10 ≡ false
+unfolding isOf
+feed-ends = refl
+
+pub allowed-in-line : (b : ℕ) → isOf Allowed b ≡ true → isOf (Until 10) b ≡ true
+allowed-in-line b e = other-in-line b (λ (k : b ≡ 10). never (cc (rw k at e, feed-not-allowed)))
+
+-- a scan for a byte that is not allowed stops at m, with the text or at LF: there the line ends, and its bytes are allowed
+module _ (f : List ℕ) (at m : ℕ) (h : at ≤ length f) (hm : m ≡ past (isOf Allowed) f at) where
+  pub allowed-line : every (isOf Allowed) (drop at (take m f)) ≡ true
+  allowed-line = strict-every (isOf Allowed) (isOf (Until 10)) allowed-in-line f at m h hm
+
+  pub allowed-ends : (m < length f → getD f m 0 ≡ 10) → m ≡ past (isOf (Until 10)) f at
+  allowed-ends k = strict-same (isOf Allowed) (isOf (Until 10)) allowed-in-line f at m h hm (λ l. ap (isOf (Until 10)) (k l) ∙ feed-ends)
 
 -- a line that is not blank has a byte
 pub not-at-end : (line : List ℕ) (at : ℕ) → every (isOf Space) (drop at line) ≡ false → at < length line

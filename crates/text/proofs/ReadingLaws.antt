@@ -5,7 +5,8 @@ use mathlib.Core.Bool.{true, false}
 use mathlib.Core.List.{List, [], _∷_}
 use native.Mathlib.Omega.{arith}
 use lib.Dec.{leb}
-use lib.ListN.{length, take, drop}
+use lib.ListN.{length, getD, take, drop}
+use lib.Seq.{length-take-le}
 use borrow.Author.Tests.{le-leb, lt-leb}
 use Rattle.edition.specs.Edition.{maxFileBytes}
 use Rattle.refusal.specs.declared.Refusal.{Refusal}
@@ -19,8 +20,8 @@ use Rattle.text.specs.Bytes.{isSpace, isAllowed}
 use Rattle.text.specs.Lines.{TextLine, linesFrom, lines, Token}
 use Rattle.text.specs.Reading.{nextToken, noMoreTokens, readAnyLine, readLines, readText}
 use Rattle.text.specs.Scan.{isOf, past}
-use Rattle.text.proofs.RunLaws.{scan-bounds}
-use Rattle.text.proofs.LineLaws.{lines-turn, lines-end, allowed-all, allowed-not, allowed-place}
+use Rattle.text.proofs.RunLaws.{past-ge, past-le, scan-bounds, strict-within, strict-before}
+use Rattle.text.proofs.LineLaws.{lines-turn, lines-end, allowed-all, allowed-not, allowed-place, allowed-in-line, other-in-line}
 
 module _ {B : Type 0} {Q : B → Type 0} (file : Subject) where
   -- a token, then the next step
@@ -71,6 +72,16 @@ module _ {State : Type 0} (file : Subject) (readLine : State → TextLine → Re
       unfolding readAnyLine isOf
       any-line b = rw (allowed, b)
 
+  -- ---- any line whose bytes are allowed
+  module _ (s : State) (text : List ℕ) (at next : ℕ) (allowed : every (isOf Allowed) (drop at text) ≡ true) where
+    pub fine-blank : every (isOf Space) (drop at text) ≡ true → accepted s ≡ readAnyLine file readLine s (lineAt text at next)
+    unfolding readAnyLine isOf
+    fine-blank b = rw (allowed, b)
+
+    pub fine-line : every (isOf Space) (drop at text) ≡ false → readLine s (lineAt text at next) ≡ readAnyLine file readLine s (lineAt text at next)
+    unfolding readAnyLine isOf
+    fine-line b = rw (allowed, b)
+
   -- ---- the loop: what is left to read, from the state that is reached, is what there was to read
   module _ (start : State) (bytes : List ℕ) where
     pub record Reading (s : State) (i : ℕ) : Type 0 where
@@ -94,6 +105,15 @@ module _ {State : Type 0} (file : Subject) (readLine : State → TextLine → Re
         pub reading-goes : (t : State) → accepted t ≡ readAnyLine file readLine s (lineAt (take stop bytes) i next) → Reading t next
         unfolding readLines
         reading-goes t e = record { within = omega arith; rest = rw (← e) at (rw (lines-turn bytes i stop next h hs hn) at (inv .rest)) }
+
+      -- a byte that is not allowed stands at `bad`, and does not end the line
+      pub reading-faults : (bad : ℕ) → i < length bytes → bad ≡ past (isOf Allowed) bytes i → bad < length bytes → (getD bytes bad 0 ≡ 10 → ⊥) → refused (refusal file byteNotAllowed bad) ≡ readLines file readLine start (lines bytes)
+      reading-faults bad h hb l k =
+          let g : i ≤ length bytes = omega arith in
+          let stop = past (isOf (Until 10)) bytes i in
+          let long = length-take-le stop bytes (past-le (isOf (Until 10)) bytes i g) in
+          let before = strict-before (isOf Allowed) (isOf (Until 10)) allowed-in-line bytes i bad g hb l (other-in-line _ k) in
+          reading-stops stop (min (stop + 1) (length bytes)) h refl refl _ (any-bad s (take stop bytes) i bad (min (stop + 1) (length bytes)) (omega (arith, long, past-ge (isOf (Until 10)) bytes i)) (strict-within (isOf Allowed) (isOf (Until 10)) allowed-in-line bytes i bad g hb) (omega (arith, long)))
 
   -- ---- the whole text
   module _ (s : State) (bytes : List ℕ) where

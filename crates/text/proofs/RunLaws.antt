@@ -1,5 +1,5 @@
 -- Runs of bytes that pass a test: where a run ends, what it is made of, and when it is the whole text. Assumes nothing.
-use Prim.Native.Nat.{ℕ, _+_, _≤_, _<_}
+use Prim.Native.Nat.{ℕ, suc, _+_, _≤_, _<_}
 use mathlib.Core.Path.{_≡_, refl, ap, sym, _∙_}
 use mathlib.Core.List.{List, [], _∷_}
 use mathlib.Core.Bool.{Bool, true, false, cond, _&&_}
@@ -12,6 +12,7 @@ use lib.Seq.{getD-drop, drop-cons, drop-at, take-add, length-take-le}
 use borrow.Author.Tests.{eq-eqb, ne-eqb}
 use Rattle.refusal.specs.Lists.{every}
 use Rattle.refusal.proofs.BoolLaws.{and-true}
+use Rattle.refusal.proofs.ResultLaws.{never}
 use Rattle.text.specs.Bytes.{run}
 use Rattle.text.specs.Scan.{past}
 
@@ -48,6 +49,41 @@ every-run p (b ∷ s) = go (p b) (run p s) (every-run p s)
     go : (t : Bool) (r : List ℕ) → every p s ≡ eqb (length r) (length s) → (t && every p s) ≡ eqb (length (cond t (b ∷ r) [])) (length (b ∷ s))
     go true r ih = ih ∙ sym (eqb·suc-suc (length r) (length s))
     go false r ih = sym (eqb·zero-suc (length s))
+
+-- the bytes of a run pass
+every-of-run : (p : ℕ → Bool) (s : List ℕ) → every p (run p s) ≡ true
+unfolding run every
+every-of-run p [] = refl
+every-of-run p (b ∷ s) = go (p b) refl (run p s) (every-of-run p s)
+  where
+    go : (t : Bool) → p b ≡ t → (r : List ℕ) → every p r ≡ true → every p (cond t (b ∷ r) []) ≡ true
+    go true e r ih = rw (e, ih)
+    go false e r ih = refl
+
+-- a stricter test, within a run of the other
+module _ (p q : ℕ → Bool) (stricter : (b : ℕ) → p b ≡ true → q b ≡ true) where
+  run-run : (s : List ℕ) → run p (run q s) ≡ run p s
+  unfolding run
+  run-run [] = refl
+  run-run (b ∷ s) = go (p b) refl (q b) refl (run-run s)
+    where
+      go : (t : Bool) → p b ≡ t → (u : Bool) → q b ≡ u → run p (run q s) ≡ run p s → run p (cond u (b ∷ run q s) []) ≡ cond t (b ∷ run p s) []
+      go true e true d ih = rw (e, ih)
+      go true e false d ih = never (cc (d, stricter b e))
+      go false e true d ih = rw e
+      go false e false d ih = refl
+
+  -- both runs end where a byte fails both
+  run-same : (s : List ℕ) → (length (run p s) < length s → q (getD s (length (run p s)) 0) ≡ false) → length (run q s) ≡ length (run p s)
+  unfolding run
+  run-same [] h = refl
+  run-same (b ∷ s) h = go (p b) refl (q b) refl (run-same s) h
+    where
+      go : (t : Bool) → p b ≡ t → (u : Bool) → q b ≡ u → ((length (run p s) < length s → q (getD s (length (run p s)) 0) ≡ false) → length (run q s) ≡ length (run p s)) → (length (cond t (b ∷ run p s) []) < length (b ∷ s) → q (getD (b ∷ s) (length (cond t (b ∷ run p s) [])) 0) ≡ false) → length (cond u (b ∷ run q s) []) ≡ length (cond t (b ∷ run p s) [])
+      go true e true d ih h = ap suc (ih (λ (l : length (run p s) < length s). h (omega arith)))
+      go true e false d ih h = never (cc (d, stricter b e))
+      go false e true d ih h = never (cc (d, h (omega arith)))
+      go false e false d ih h = refl
 
 -- where the run at i ends, from one place to the next
 module _ (p : ℕ → Bool) (f : List ℕ) (i : ℕ) where
@@ -125,3 +161,24 @@ module _ (p : ℕ → Bool) (f : List ℕ) (at m : ℕ) (h : at ≤ length f) (h
 
   pub scan-not : m < length f → every p (drop at f) ≡ false
   scan-not l = every-past p f at h ∙ ne-eqb _ _ (λ (e : past p f at ≡ length f). let z : ⊥ = omega arith in absurd z)
+
+-- a scan by a stricter test: it ends where the other does, or before that
+module _ (p q : ℕ → Bool) (stricter : (b : ℕ) → p b ≡ true → q b ≡ true) (f : List ℕ) (i m : ℕ) (h : i ≤ length f) (hm : m ≡ past p f i) where
+  pub strict-every : every p (drop i (take m f)) ≡ true
+  strict-every = rw (hm, ← run-part p f i h) (every-of-run p (drop i f))
+
+  pub strict-same : (m < length f → q (getD f m 0) ≡ false) → m ≡ past q f i
+  unfolding past
+  strict-same k =
+      let e = run-same p q stricter (drop i f) (λ l. ap q (getD-drop i f (length (run p (drop i f))) 0) ∙ rw hm at (k (omega (arith, length-drop i f)))) in
+      omega arith
+
+  pub strict-within : m ≡ past p (take (past q f i) f) i
+  unfolding past
+  strict-within = hm ∙ rw (← run-part q f i h, run-run p q stricter (drop i f))
+
+  pub strict-before : m < length f → q (getD f m 0) ≡ true → m < past q f i
+  strict-before l k = elim (ℕ-discrete m (past q f i)) [
+    | yes e ↦ never (cc (k, rw (← e) at (past-fails q f i (omega arith))))
+    | no e ↦ (let w = past-le p (take (past q f i) f) i (omega (arith, length-take-le (past q f i) f (past-le q f i h), past-ge q f i)) in omega (arith, strict-within, length-take-le (past q f i) f (past-le q f i h)))
+  ]

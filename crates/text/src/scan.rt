@@ -10,12 +10,17 @@ ghost use Rattle.refusal.specs.Lists.{every};
 ghost use Rattle.text.specs.Bytes.{isSpace, isDigit, isLetter, isNameByte, isAllowed};
 ghost use Rattle.text.specs.Lines.{tokensFrom, leads as leadsBy};
 ghost use Rattle.text.specs.Spelling.{isName};
+ghost use Rattle.text.specs.declared.Class.the-variants.{Allowed};
 ghost use Rattle.text.specs.Scan.{isOf, past, tokensBy, Within};
 
 fn is_space(b: u8) -> bool
     ensures { λ r. ⌜ r ≡ isSpace b ⌝ }
 {
-    (b == b' ') | (b == b'\t')
+    if b' ' < b {
+        false
+    } else {
+        (b == b' ') | (b == b'\t')
+    }
 }
 
 fn is_digit(b: u8) -> bool
@@ -71,6 +76,39 @@ pub fn scan(text: &[u8], at: usize, class: Class) -> usize
     i
 }
 
+// Passes over printing bytes from `at` on: most of a line, by one test each.
+fn printing(text: &[u8], at: usize) -> usize
+    requires { ⌜ at ≤ length (now text) ⌝ }
+    ensures { λ r. ⌜ (r ≤ length (now (text .entry))) × (past (isOf Allowed) (now (text .entry)) r ≡ past (isOf Allowed) (now (text .entry)) at) × (at ≤ r) ⌝ }
+{
+    let mut i = at;
+    while i < text.len() {
+        if (b' ' <= text[i]) & (text[i] <= b'~') {
+            i += 1;
+        } else {
+            return i;
+        }
+    }
+    i
+}
+
+// As `scan` does for the bytes allowed in a line.
+pub fn allowed(text: &[u8], at: usize) -> usize
+    requires { ⌜ at ≤ length (now text) ⌝ }
+    ensures { λ r. ⌜ r ≡ past (isOf Allowed) (now (text .entry)) at ⌝ }
+{
+    let mut i = printing(text, at);
+    while i < text.len() {
+        if is_allowed(text[i]) {
+            let next = i + 1;
+            i = printing(text, next);
+        } else {
+            return i;
+        }
+    }
+    i
+}
+
 // Whether every byte from `at` on is of the class.
 pub fn all(text: &[u8], at: usize, class: Class) -> bool
     requires { ⌜ at ≤ length (now text) ⌝ }
@@ -108,8 +146,12 @@ pub fn is_name(text: &[u8], at: usize) -> bool
     if at == text.len() {
         return false;
     }
-    let next = at + 1;
-    is_letter(text[at]) & all(text, next, Class::NameByte)
+    if is_letter(text[at]) {
+        let next = at + 1;
+        all(text, next, Class::NameByte)
+    } else {
+        false
+    }
 }
 
 // Whether the line from `at` on starts with a letter, then white space or the line's end.
