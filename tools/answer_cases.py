@@ -21,6 +21,7 @@ sys.dont_write_bytecode = True  # no __pycache__ in the repository
 import answers
 import operators
 from answers import Refusal
+from constraint_cases import marked_tokens
 from constraints import RESERVED, Line, is_predicate, unmarked
 from operators import OPERATORS, Word
 
@@ -179,14 +180,8 @@ PLACES = [
 
 
 def wrong_tokens():
-    """The first token for each number at every place, and each token at some place."""
-    for table, places in PLACES:
-        for number, tokens in table.items():
-            first, *others = tokens.split()
-            found = [(first, place) for place in places]
-            found += [(token, random.choice(places)) for token in others]
-            for token, place in found:
-                yield refused_answer(number, place.format("¦" + token))
+    for number, text in marked_tokens(PLACES, random):
+        yield refused_answer(number, text)
 
 
 def prefix_names():

@@ -85,15 +85,20 @@ PLACES = [
 ENDINGS = ("", "\n", " \t\n", "\nx\n")
 
 
-def wrong_tokens():
-    """The first token for each number at every place, and each token at some place."""
-    for table, places in PLACES:
+def marked_tokens(tables, random):
+    """The first token for each number at every place, and each token at some place, with its number."""
+    for table, places in tables:
         for number, tokens in table.items():
             first, *others = tokens.split()
             found = [(first, place) for place in places]
             found += [(token, random.choice(places)) for token in others]
             for token, place in found:
-                yield refused(number, place.format("¦" + token) + random.choice(ENDINGS))
+                yield number, place.format("¦" + token)
+
+
+def wrong_tokens():
+    for number, text in marked_tokens(PLACES, random):
+        yield refused(number, text + random.choice(ENDINGS))
 
 
 # Small files. In a faulty line 2 comes first, then 3, 4 and 11 for the line, then its tokens from left
