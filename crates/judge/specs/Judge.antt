@@ -22,7 +22,7 @@ holds = 1
 abbrev pub disregarded : ℕ
 disregarded = 2
 
--- the result of a line, of the width of its target; missing where its divisor is zero
+-- the result of a line, of the width of its target; missing where its divisor is zero. An accepted file's lines keep their rules, so under values that fit nothing else makes it missing (`ResultsAreThere`)
 unfoldable pub result : List Variable → List ℕ → Line → Option ℕ
 result xs row l = meaning (l .operator) (target xs row (l .output) .width) (word xs row (l .operands .first)) (word xs row (l .operands .second)) (word xs row (l .operands .third))
 
