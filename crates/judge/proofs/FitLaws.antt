@@ -1,4 +1,4 @@
--- Values that fit their variables: as the test of a row says it, and as the operands of its lines need it. Assumes nothing.
+-- Values that fit their variables: as the test of a row says it, and as the lines of a file need it. Assumes nothing.
 use Prim.Native.Nat.{ℕ, zero, suc, _≤_, _<_, _^_}
 use mathlib.Core.Path.{_≡_, refl}
 use mathlib.Core.Bool.{true}
@@ -24,6 +24,7 @@ use Rattle.judge.specs.InUse.{held, firstUnfit}
 use Rattle.judge.specs.Claims.{RowFits}
 use Rattle.judge.specs.Unnamed.{Fitting}
 use Rattle.judge.proofs.UnfitLaws.{unfit}
+use Rattle.judge.proofs.RuleLaws.{line-widths, line-typed}
 
 -- a word's test
 fits-lt : (w : Word) → fits w ≡ true → w .value < 2 ^ w .width
@@ -70,7 +71,7 @@ module _ (xs : List Variable) (values : List ℕ) (room : length xs ≤ length v
   unfolding firstUnfit
   unfit-none h = none-unfit 0 xs values λ i p. rw (getD-take (length xs) values i 0 p) at (h i)
 
--- ---- the operands of sound lines fit
+-- ---- sound lines keep their rules
 front-fits : (n : ℕ) (ws : List Word) → Each (λ w. fits w ≡ true) ws → every fits (take n ws) ≡ true
 unfolding every
 front-fits zero ws h = refl
@@ -88,7 +89,11 @@ module _ (xs : List Variable) (row : List ℕ) (h : RowFits xs row) where
   unfolding valuesFit
   line-fits l s =
       let os = l .operands in
-      record { fit = front-fits (arity (l .operator)) (word xs row (os .first) ∷ word xs row (os .second) ∷ word xs row (os .third) ∷ []) (word-fits (os .first) (s .first), (word-fits (os .second) (s .second), (word-fits (os .third) (s .third), tt))) }
+      record {
+        widths = line-widths xs row l s;
+        typed = line-typed xs row l s;
+        fit = front-fits (arity (l .operator)) (word xs row (os .first) ∷ word xs row (os .second) ∷ word xs row (os .third) ∷ []) (word-fits (os .first) (s .first), (word-fits (os .second) (s .second), (word-fits (os .third) (s .third), tt)));
+      }
 
 pub fits-fit : (f : File) (row : List ℕ) → SoundFile f → RowFits (f .variables) row → Each (Fitting (f .variables) row) (f .lines)
 fits-fit f row s h = each-map (line-fits (f .variables) row h) (f .lines) (s .lines)

@@ -16,7 +16,7 @@ use Rattle.judge.proofs.UnnamedLaws.{verdicts-unnamed, each-fitting-unn
 use Rattle.judge.proofs.FitLaws.{fits-fit}
 
 module _ (bytes : List ℕ) (t : Held) (p : Progress) (row : List ℕ) where
-  -- the operands of each line fit, where the row does
+  -- each line keeps its rules, where the row fits
   pub lines-fit : accepted (fileHeld bytes t p) ≡ readFile bytes → RowFits (heldVariables bytes t (p .variables)) row → Each (Fitting (unnamed (t .widths) (p .variables)) row) (linesIn (t .lines) (p .lines))
   lines-fit e h = each-fitting-unnamed bytes (t .starts) (t .lens) (t .widths) (p .variables) row (linesIn (t .lines) (p .lines)) (fits-fit (fileHeld bytes t p) row (accepted-is-sound bytes (fileHeld bytes t p) (sym e)) h)
 

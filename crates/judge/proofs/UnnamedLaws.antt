@@ -68,7 +68,12 @@ module _ (file starts lens widths : List ℕ) (n : ℕ) where
     verdicts-unnamed (l ∷ ls) = ap₂ (λ (v : ℕ) (vs : List ℕ). v ∷ vs) (ap (λ j. j .verdict) (judge-unnamed l)) (verdicts-unnamed ls)
 
     pub fitting-unnamed : (l : Line) → Fitting (variablesIn file starts lens widths n) row l → Fitting (unnamed widths n) row l
-    fitting-unnamed l h = record { fit = rw (← word-unnamed (l .operands .first), ← word-unnamed (l .operands .second), ← word-unnamed (l .operands .third)) (h .fit) }
+    fitting-unnamed l h =
+        let a = word-unnamed (l .operands .first) in
+        let b = word-unnamed (l .operands .second) in
+        let c = word-unnamed (l .operands .third) in
+        let g = target-unnamed (l .output) in
+        record { widths = rw (← a, ← b, ← c, ← g) (h .widths); typed = rw (← a, ← b, ← c, ← g) (h .typed); fit = rw (← a, ← b, ← c) (h .fit) }
 
     pub each-fitting-unnamed : (ls : List Line) → Each (Fitting (variablesIn file starts lens widths n) row) ls → Each (Fitting (unnamed widths n) row) ls
     each-fitting-unnamed = each-map fitting-unnamed

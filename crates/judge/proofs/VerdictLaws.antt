@@ -1,7 +1,6 @@
 -- The verdict on a line from what its operator answers, and the verdicts on all lines, put down one after the other. Assumes nothing.
 use Prim.Native.Nat.{ℕ, suc, _+_, _<_}
 use mathlib.Core.Path.{_≡_, refl, sym, _∙_}
-use mathlib.Core.Bool.{Bool, true, false, cond, _&&_}
 use mathlib.Core.List.{List, [], _∷_, _++_, map-append}
 use mathlib.Core.Option.{Option, none, some}
 use native.Mathlib.Numerals.{add-one}
@@ -9,16 +8,10 @@ use native.Mathlib.Omega.{arith}
 use lib.ListN.{length, getD, drop, set, length-map}
 use lib.Seq.{append-snoc, drop-cons, set-at}
 use borrow.Author.Tests.{eq-eqb, ne-eqb}
-use Rattle.refusal.specs.declared.Refusal.{Refusal}
-use Rattle.refusal.specs.Numbers.{notAWidth, typeRuleBroken, valueDoesNotFit}
-use Rattle.refusal.specs.Result.{accepted, ensure, _>>_}
-use Rattle.operator.specs.declared.Operator.{Operator}
-use Rattle.operator.specs.declared.Word.{Word}
 use Rattle.operator.specs.declared.Applied.{Applied}
 use Rattle.operator.specs.declared.Applied.the-variants.{Value, ZeroDivisor, Refused}
-use Rattle.operator.specs.Rules.{widthsHold, typed, valuesFit}
 use Rattle.operator.specs.Meaning.{value, meaning}
-use Rattle.operator.specs.Apply.{ofCall, applying, applied, applyOutcome}
+use Rattle.operator.specs.Apply.{reported}
 use Rattle.constraint.specs.declared.Line.{Line}
 use Rattle.constraint.specs.File.{Variable, word, target}
 use Rattle.constraint.specs.Tables.{lineIn, linesIn}
@@ -35,25 +28,18 @@ resultOf (Value r) = some r
 resultOf ZeroDivisor = none
 resultOf (Refused r) = none
 
-result-split : (w t : Bool) (v : Option ℕ) (a b c : Refusal) → resultOf (applied (ensure w a >> (ensure t b >> (ensure true c >> accepted (cond (w && t) v none))))) ≡ cond (w && t) v none
-result-split true true (some r) a b c = refl
-result-split true true none a b c = refl
-result-split true false v a b c = refl
-result-split false t v a b c = refl
-
--- operands that fit are refused only where there is no meaning
-means : (op : Operator) (k : ℕ) (a b c : Word) → valuesFit op a b c ≡ true → resultOf (applyOutcome op k a b c) ≡ meaning op k a b c
-unfolding applying meaning
-means op k a b c h = rw h (result-split (widthsHold op k a b c) (typed op k a b c) (value op k a b c) (ofCall notAWidth) (ofCall typeRuleBroken) (ofCall valueDoesNotFit))
+result-reported : (v : Option ℕ) → resultOf (reported v) ≡ v
+result-reported (some r) = refl
+result-reported none = refl
 
 -- what the operator of a line answers
 abbrev pub answer : List Variable → List ℕ → Line → Applied
-answer xs row l = applyOutcome (l .operator) (target xs row (l .output) .width) (word xs row (l .operands .first)) (word xs row (l .operands .second)) (word xs row (l .operands .third))
+answer xs row l = reported (value (l .operator) (target xs row (l .output) .width) (word xs row (l .operands .first)) (word xs row (l .operands .second)) (word xs row (l .operands .third)))
 
 module _ (xs : List Variable) (row : List ℕ) (l : Line) (h : Fitting xs row l) where
   answered : resultOf (answer xs row l) ≡ result xs row l
-  unfolding result
-  answered = means (l .operator) (target xs row (l .output) .width) (word xs row (l .operands .first)) (word xs row (l .operands .second)) (word xs row (l .operands .third)) (h .fit)
+  unfolding result meaning
+  answered = rw (h .widths, h .typed) (result-reported (value (l .operator) (target xs row (l .output) .width) (word xs row (l .operands .first)) (word xs row (l .operands .second)) (word xs row (l .operands .third))))
 
   pub judge-none : resultOf (answer xs row l) ≡ none → record { verdict = disregarded; result = 0 } ≡ judge xs row l
   unfolding judge

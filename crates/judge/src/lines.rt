@@ -8,7 +8,7 @@ use constraint::typing::width_of;
 use edition::Edition;
 use operator::Applied;
 use operator::Word;
-use operator::apply;
+use operator::evaluate::evaluate;
 ghost use mathlib.Core.Path.{_≡_};
 ghost use mathlib.Core.List.{_++_};
 ghost use Prim.Native.Nat.{_≤_};
@@ -54,7 +54,7 @@ fn target(widths: &[u64; Edition::VARIABLES], n: usize, row: &[u64], o: Operand)
     }
 }
 
-// The verdict on a line whose operands fit, and its result.
+// The verdict on a line that keeps its rules, and its result.
 pub fn judge_line(widths: &[u64; Edition::VARIABLES], n: usize, row: &[u64], line: Line) -> Judged
     requires { ⌜ (n ≤ maxVariables) × Fitting (unnamed (now widths) n) (now row) line ⌝ }
     ensures { λ r. ⌜ r ≡ judge (unnamed (now (widths .entry)) n) (now (row .entry)) line ⌝ }
@@ -69,7 +69,7 @@ pub fn judge_line(widths: &[u64; Edition::VARIABLES], n: usize, row: &[u64], lin
     let b = word(widths, n, row, second);
     let c = word(widths, n, row, third);
     let goal = target(widths, n, row, output);
-    match apply(op, goal.width, a, b, c) {
+    match evaluate(op, goal.width, a, b, c) {
         Applied::Value(result) => {
             if result == goal.value {
                 Judged {

@@ -32,7 +32,8 @@ fn choose(a: u64, b: u64, c: u64) -> u64
     if a == 1 { b } else { c }
 }
 
-pub(crate) fn evaluate(op: Operator, k: u64, a: Word, b: Word, c: Word) -> Applied
+// For callers that have shown the rules to hold; `apply` tests them.
+pub fn evaluate(op: Operator, k: u64, a: Word, b: Word, c: Word) -> Applied
     requires { ⌜ Given op k a b c ⌝ }
     ensures { λ r. ⌜ r ≡ reported (value op k a b c) ⌝ }
 {

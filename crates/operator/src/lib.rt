@@ -12,7 +12,7 @@ ghost use Rattle.operator.specs.Apply.{ofCall, applyOutcome};
 pub mod bits;
 mod casts;
 pub mod claims;
-mod evaluate;
+pub mod evaluate;
 pub mod numbering;
 mod orders;
 mod quotients;

@@ -1,5 +1,6 @@
 use mathlib.Core.Path.{_≡_, sym, ap, _∙_}
 use borrow.Author.Needs.{needs}
+use Rattle.operator.proofs.RuleLaws.{given}
 use Rattle.judge.specs.Unnamed.{unnamed}
 use Rattle.judge.proofs.VerdictLaws.{resultOf, answer, judge-none, judge-holds, judge-violated}
 use Rattle.judge.proofs.lines.judge_line.Statement.{statement}
@@ -17,8 +18,11 @@ word-requires-3 c κs = search needs
 target-requires : tie.Need-target-requires
 target-requires c κs = search needs
 
-apply-requires : tie.Need-apply-requires
-apply-requires c κs = search needs
+evaluate-requires : tie.Need-evaluate-requires
+evaluate-requires c κs =
+    let s = c .before .before .before .before .before .before in
+    let h = s .pre .1 in
+    rw (c .target .ensures, c .before .word3 .ensures, c .before .before .word2 .ensures, c .before .before .before .word .ensures) (given _ _ _ _ _ (h .widths) (h .typed) (h .fit))
 
 enum-known-result : tie.Need-enum-known-result
 enum-known-result c = search needs
@@ -29,9 +33,9 @@ enum-told c = search needs
 enum-told-2 : tie.Need-enum-told-2
 enum-told-2 c = search needs
 
--- what `apply` answers, said of the line
-told : (c : tie.After-apply) → let s = c .before .before .before .before .before .before .before .args in c .apply .result ≡ answer (unnamed (s .widths .now) (s .n)) (s .row .now) (s .line)
-told c = rw (c .before .target .ensures, c .before .before .word3 .ensures, c .before .before .before .word2 .ensures, c .before .before .before .before .word .ensures) at (c .apply .ensures)
+-- what `evaluate` answers, said of the line
+told : (c : tie.After-evaluate) → let s = c .before .before .before .before .before .before .before .args in c .evaluate .result ≡ answer (unnamed (s .widths .now) (s .n)) (s .row .now) (s .line)
+told c = rw (c .before .target .ensures, c .before .before .word3 .ensures, c .before .before .before .word2 .ensures, c .before .before .before .before .word .ensures) at (c .evaluate .ensures)
 
 returns : tie.Need-returns
 returns c =
@@ -67,7 +71,7 @@ judge-line-spec =
     word-requires-2
     word-requires-3
     target-requires
-    apply-requires
+    evaluate-requires
     enum-known-result
     enum-told
     enum-told-2
