@@ -13,3 +13,4 @@ pub mod NewNameLaws
 pub mod DeclareLaws
 pub mod ReaderLaws
 pub mod OperandLaws
+pub mod TakenLaws

@@ -1,9 +1,10 @@
 -- The variable of a name: found from one entry of the tables to the next, and used. Assumes nothing.
 use Prim.Native.Nat.{ℕ, zero, suc, _+_, _-_, _≤_, _<_}
-use mathlib.Core.Path.{_≡_, refl, ap, _∙_}
+use mathlib.Core.Path.{_≡_, refl, ap, sym, _∙_}
 use mathlib.Core.Bool.{Bool, true, false}
 use mathlib.Core.List.{List, [], _∷_}
 use mathlib.Core.Option.{none, some}
+use native.Mathlib.Nat.{add-zero}
 use native.Mathlib.Decide.{decLt}
 use native.Mathlib.Omega.{arith}
 use lib.ListN.{length, getD, take, drop, length-drop}
@@ -14,12 +15,15 @@ use Rattle.refusal.specs.Lists.{firstFrom}
 use Rattle.refusal.specs.Result.{accepted, refused}
 use Rattle.refusal.proofs.ListLaws.{first-kept, first-behind}
 use Rattle.text.specs.Bytes.{same}
+use Rattle.text.proofs.NameLaws.{same-self, same-true, same-false}
 use Rattle.constraint.specs.declared.Operand.the-variants.{Var}
 use Rattle.constraint.specs.File.{Variable, variableNamed}
 use Rattle.constraint.specs.Tables.{tabulate, variableIn, variablesIn}
 use Rattle.constraint.specs.Read.{at, readVariable}
+use Rattle.constraint.specs.Claims.{Distinct}
 use Rattle.constraint.specs.Answers.{tokenAt}
-use Rattle.constraint.proofs.TableLaws.{length-tabulate, tabulate-suc}
+use Rattle.constraint.proofs.TableLaws.{length-tabulate, getD-tabulate, tabulate-suc}
+use Rattle.constraint.proofs.EachLaws.{each-at}
 
 -- a table none of whose first i elements passes
 module _ {A : Type 0} (test : A → Bool) (f : ℕ → A) (i : ℕ) (e : firstFrom test 0 (tabulate f i) ≡ none) where
@@ -58,6 +62,24 @@ module _ (name file starts lens widths : List ℕ) where
     pub named-here : same (take (getD lens i 0) (drop (getD starts i 0) file)) name ≡ true → (n : ℕ) → i < n → variableNamed name (variablesIn file starts lens widths n) ≡ some i
     unfolding variableNamed variablesIn variableIn
     named-here = first-here (λ x. same (x .name) name) (variableIn file starts lens widths) i e
+
+-- where no two names are the same, any variable that has the name is the one found
+named-at : (name : List ℕ) (d : Variable) (xs : List Variable) (k i : ℕ) → Distinct xs → i < length xs → getD xs i d .name ≡ name → firstFrom (λ x. same (x .name) name) k xs ≡ some (k + i)
+unfolding firstFrom
+named-at name d [] k i u h e = let z : ⊥ = omega arith in absurd z
+named-at name d (x ∷ xs) k zero u h e = rw (e, same-self name, add-zero k)
+named-at name d (x ∷ xs) k (suc i) u h e =
+    let other : same (x .name) name ≡ false = same-false (x .name) name (λ q. each-at (λ y. x .name ≡ y .name → ⊥) xs i d (u .0) (omega arith) (q ∙ sym e)) in
+    let place : suc k + i ≡ k + suc i = omega arith in
+    rw (other, ← place) (named-at name d xs (suc k) i (u .1) (omega arith) e)
+
+pub named-guess : (name file starts lens widths : List ℕ) (n i : ℕ) → Distinct (variablesIn file starts lens widths n) → i < n → same (take (getD lens i 0) (drop (getD starts i 0) file)) name ≡ true → variableNamed name (variablesIn file starts lens widths n) ≡ some i
+unfolding variableNamed variablesIn variableIn
+named-guess name file starts lens widths n i u h e =
+    let d : Variable = record { name = []; width = 0 } in
+    let q : 0 + i ≡ i = omega arith in
+    let e₂ : getD (tabulate (variableIn file starts lens widths) n) i d .name ≡ name = ap (λ (x : Variable). x .name) (getD-tabulate (variableIn file starts lens widths) n i d h) ∙ same-true _ name e in
+    named-at name d (tabulate (variableIn file starts lens widths) n) 0 i u (omega (arith, length-tabulate (variableIn file starts lens widths) n)) e₂ ∙ ap some q
 
 -- a variable that is used, from a place to the end of a text
 module _ (xs : List Variable) (text : List ℕ) (start : ℕ) where

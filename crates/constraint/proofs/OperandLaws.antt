@@ -1,5 +1,5 @@
 -- Operands, operations and the `c` and `p` lines, by what their tokens are. Assumes nothing.
-use mathlib.Core.Path.{_≡_}
+use mathlib.Core.Path.{_≡_, refl}
 use mathlib.Core.Bool.{true}
 use mathlib.Core.List.{List, [], _∷_}
 use mathlib.Core.Option.{none, some}
@@ -11,17 +11,18 @@ use Rattle.edition.specs.Edition.{maxLines}
 use Rattle.refusal.specs.declared.Refusal.{Refusal}
 use Rattle.refusal.specs.declared.Subject.the-variants.{Constraint}
 use Rattle.refusal.specs.Numbers.{tokenCount, overLimit, unknownOperator}
-use Rattle.refusal.specs.Result.{accepted, refused, refusal}
+use Rattle.refusal.specs.Result.{Result, accepted, refused, refusal, _>>=_}
 use Rattle.operator.specs.declared.Operator.{Operator}
+use Rattle.operator.specs.declared.Operator.the-variants.{Combine, Not, Implies, Compare, Ite, Compute, Divide, Move, Trun, Extend, Conc, Extr}
 use Rattle.operator.specs.Rules.{arity}
 use Rattle.text.specs.Lines.{TextLine, Token, tokensFrom}
 use Rattle.constraint.specs.declared.Operand.{Operand}
-use Rattle.constraint.specs.declared.Operand.the-variants.{Absent}
+use Rattle.constraint.specs.declared.Form.{Form}
 use Rattle.constraint.specs.declared.Operands.{Operands}
 use Rattle.constraint.specs.File.{Variable, File, edition}
 use Rattle.spelling.specs.Operators.{operatorNamed}
-use Rattle.constraint.specs.Read.{readOperand, nextOperand, noOperands, inFront, readOperands, readOperation, readConstraint, readPredicate}
-use Rattle.constraint.specs.Answers.{lineAt, finished}
+use Rattle.constraint.specs.Read.{readOperand, nextOperand, noOperands, inFront, maxOperands, readOperands, readOperation, nextOutput, readStatement}
+use Rattle.constraint.specs.Answers.{lineAt, takenBehind, finished}
 use Rattle.constraint.proofs.HeaderLaws.{arguments-at, end-at}
 
 -- ---- the next operand
@@ -40,27 +41,39 @@ module _ (xs : List Variable) (l : TextLine) (ts : List Token) (t : Token) (rest
   operand-read o e = rw (k, ← e)
 
 -- ---- the next operands
+-- an operator takes 1 to 3
+pub arity-bounds : (op : Operator) → (1 ≤ arity op) × (arity op ≤ maxOperands)
+unfolding arity
+arity-bounds (Combine o) = (omega arith, omega arith)
+arity-bounds Not = (omega arith, omega arith)
+arity-bounds Implies = (omega arith, omega arith)
+arity-bounds (Compare o) = (omega arith, omega arith)
+arity-bounds Ite = (omega arith, omega arith)
+arity-bounds (Compute o) = (omega arith, omega arith)
+arity-bounds (Divide o) = (omega arith, omega arith)
+arity-bounds (Move o) = (omega arith, omega arith)
+arity-bounds Trun = (omega arith, omega arith)
+arity-bounds (Extend o) = (omega arith, omega arith)
+arity-bounds Conc = (omega arith, omega arith)
+arity-bounds Extr = (omega arith, omega arith)
+
+behind-is : (o : Operand) (r : Result (Operands × List Token)) → takenBehind o r ≡ (r >>= λ p. accepted (inFront o (p .0), p .1))
+behind-is o (accepted p) = refl
+behind-is o (refused r) = refl
+
 module _ (xs : List Variable) (l : TextLine) (count : ℕ) (ts : List Token) where
-  pub operands-none : count ≡ 0 → accepted (noOperands, ts) ≡ readOperands xs l count ts
+  pub operands-refused : 1 ≤ count → (r : Refusal) → refused r ≡ nextOperand xs l ts → refused r ≡ readOperands xs l count ts
   unfolding readOperands
-  operands-none e = rw e
+  operands-refused k r h = let e : count ≡ suc (count - 1) = omega arith in rw (e, ← h)
 
-  module _ (n : count ≡ 0 → ⊥) where
-    one-more : count ≡ suc (count - 1)
-    one-more = omega arith
-
-    pub operands-refused : (r : Refusal) → refused r ≡ nextOperand xs l ts → refused r ≡ readOperands xs l count ts
+  module _ (o : Operand) (rest : List Token) (h : accepted (o, rest) ≡ nextOperand xs l ts) where
+    pub operands-more : (n : ℕ) → count ≡ suc n → takenBehind o (readOperands xs l n rest) ≡ readOperands xs l count ts
     unfolding readOperands
-    operands-refused r h = rw (one-more, ← h)
+    operands-more n e = rw (e, ← h) (behind-is o (readOperands xs l n rest))
 
-    module _ (o : Operand) (rest : List Token) (h : accepted (o, rest) ≡ nextOperand xs l ts) where
-      pub operands-rest-refused : (r : Refusal) → refused r ≡ readOperands xs l (count - 1) rest → refused r ≡ readOperands xs l count ts
-      unfolding readOperands
-      operands-rest-refused r k = rw (one-more, ← h, ← k)
-
-      pub operands-read : (os : Operands) (more : List Token) → accepted (os, more) ≡ readOperands xs l (count - 1) rest → accepted (inFront o os, more) ≡ readOperands xs l count ts
-      unfolding readOperands
-      operands-read os more k = rw (one-more, ← h, ← k)
+    pub operands-last : count ≡ 1 → accepted (inFront o noOperands, rest) ≡ readOperands xs l count ts
+    unfolding readOperands
+    operands-last e = rw (e, ← h)
 
 -- ---- an operation
 module _ (f : File) (output : Operand) (ts : List Token) where
@@ -84,27 +97,17 @@ module _ (f : File) (output : Operand) (ts : List Token) where
       operation-read os more h = rw (k, ← e, v, ← h)
 
 -- ---- the `c` and `p` lines of a file with m lines so far
-module _ (f : File) (line : List ℕ) (at next m : ℕ) (q : length (f .lines) ≡ m) where
-  module _ (h : maxLines ≤ m) where
-    pub constraint-full : refused (refusal Constraint overLimit at) ≡ readConstraint f (lineAt line at next)
-    unfolding readConstraint
-    constraint-full = rw (q, le-ltb m maxLines h)
+module _ (form : Form) (f : File) (line : List ℕ) (at next m : ℕ) (q : length (f .lines) ≡ m) where
+  pub statement-full : maxLines ≤ m → refused (refusal Constraint overLimit at) ≡ readStatement form f (lineAt line at next)
+  unfolding readStatement
+  statement-full h = rw (q, le-ltb m maxLines h)
 
-    pub predicate-full : refused (refusal Constraint overLimit at) ≡ readPredicate f (lineAt line at next)
-    unfolding readPredicate
-    predicate-full = rw (q, le-ltb m maxLines h)
+  module _ (h : m < maxLines) (xs : List Variable) (v : f .variables ≡ xs) where
+    pub statement-refused : (r : Refusal) → refused r ≡ nextOutput form xs (lineAt line at next) (tokensFrom true (at + 1) (drop (at + 1) line)) → refused r ≡ readStatement form f (lineAt line at next)
+    unfolding readStatement
+    statement-refused r e = rw (q, lt-ltb m maxLines h, arguments-at line at next, v, ← e)
 
-  module _ (h : m < maxLines) where
-    pub predicate-read : readOperation f (lineAt line at next) Absent (tokensFrom true (at + 1) (drop (at + 1) line)) ≡ readPredicate f (lineAt line at next)
-    unfolding readPredicate
-    predicate-read = rw (q, lt-ltb m maxLines h, arguments-at line at next)
-
-    module _ (xs : List Variable) (v : f .variables ≡ xs) where
-      pub constraint-refused : (r : Refusal) → refused r ≡ nextOperand xs (lineAt line at next) (tokensFrom true (at + 1) (drop (at + 1) line)) → refused r ≡ readConstraint f (lineAt line at next)
-      unfolding readConstraint
-      constraint-refused r e = rw (q, lt-ltb m maxLines h, arguments-at line at next, v, ← e)
-
-      pub constraint-read : (o : Operand) (ts : List Token) → accepted (o, ts) ≡ nextOperand xs (lineAt line at next) (tokensFrom true (at + 1) (drop (at + 1) line))
-          → readOperation f (lineAt line at next) o ts ≡ readConstraint f (lineAt line at next)
-      unfolding readConstraint
-      constraint-read o ts e = rw (q, lt-ltb m maxLines h, arguments-at line at next, v, ← e)
+    pub statement-read : (o : Operand) (ts : List Token) → accepted (o, ts) ≡ nextOutput form xs (lineAt line at next) (tokensFrom true (at + 1) (drop (at + 1) line))
+        → readOperation f (lineAt line at next) o ts ≡ readStatement form f (lineAt line at next)
+    unfolding readStatement
+    statement-read o ts e = rw (q, lt-ltb m maxLines h, arguments-at line at next, v, ← e)

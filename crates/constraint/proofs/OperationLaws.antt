@@ -15,7 +15,7 @@ use Rattle.edition.specs.Edition.{maxLines, maxNameBytes, isWidth}
 use Rattle.refusal.specs.declared.Subject.the-variants.{Constraint}
 use Rattle.refusal.specs.Lists.{every}
 use Rattle.refusal.specs.Result.{Result}
-use Rattle.refusal.proofs.ResultLaws.{Yields, yields-accepted, yields-cond, yields-bind, yields-ensure, yields-both, yields-given}
+use Rattle.refusal.proofs.ResultLaws.{Yields, yields-accepted, yields-cond, yields-bind, yields-ensure, yields-both, yields-given, yields-also}
 use Rattle.operator.specs.declared.Operator.{Operator}
 use Rattle.operator.specs.Rules.{arity, widthsHold}
 use Rattle.text.specs.Lines.{TextLine, Token, arguments}
@@ -25,11 +25,13 @@ use Rattle.constraint.specs.declared.Operand.{Operand}
 use Rattle.constraint.specs.declared.Operand.the-variants.{Absent, Var, Const}
 use Rattle.constraint.specs.declared.Operands.{Operands}
 use Rattle.constraint.specs.declared.Line.{Line}
+use Rattle.constraint.specs.declared.Form.{Form}
+use Rattle.constraint.specs.declared.Form.the-variants.{WithOutput, Predicate}
 use Rattle.constraint.specs.File.{Variable, File, withLine, edition, variableNamed, word, target}
 use Rattle.spelling.specs.Operators.{operatorNamed}
 use Rattle.constraint.specs.Types.{declared, wellTyped}
 use Rattle.constraint.specs.Tables.{Storable, StorableLine}
-use Rattle.constraint.specs.Read.{readVariable, readConstant, readOperand, nextOperand, readOperands, readOperation, readConstraint, readPredicate}
+use Rattle.constraint.specs.Read.{readVariable, readConstant, readOperand, nextOperand, readOperands, readOperation, nextOutput, readStatement}
 use Rattle.constraint.specs.Claims.{Each, SoundOperand, SoundLine, SoundVariable, SoundFile}
 use Rattle.constraint.proofs.EachLaws.{each-last, each-front}
 use Rattle.constraint.proofs.VariableLaws.{is-width, width-test, variable-width, variable-within}
@@ -73,6 +75,12 @@ next-yields xs l ts =
     yields-next Constraint l ts λ p.
     yields-bind (operand-yields xs (p .0)) λ o h.
     yields-accepted h
+
+-- an output, which is there or not
+output-yields : (form : Form) (xs : List Variable) (l : TextLine) (ts : List Token) → Yields (λ p. SoundOperand xs (p .0)) (nextOutput form xs l ts)
+unfolding nextOutput
+output-yields WithOutput xs l ts = yields-also (λ p h. sound xs (p .0) h) (next-yields xs l ts)
+output-yields Predicate xs l ts = yields-accepted tt
 
 -- sound operands, of which the first n are there
 record SoundOperands (xs : List Variable) (n : ℕ) (os : Operands) : Type 0 where
@@ -149,18 +157,12 @@ module _ (f : File) (l : TextLine) (h : SoundFile f) where
         third = k .third;
       })))
 
-  pub constraint-keeps : Yields (λ line. SoundFile (withLine f line)) (readConstraint f l)
-  unfolding readConstraint
-  constraint-keeps =
+  pub statement-keeps : (form : Form) → Yields (λ line. SoundFile (withLine f line)) (readStatement form f l)
+  unfolding readStatement
+  statement-keeps form =
       yields-ensure (ltb (length (f .lines)) maxLines) _ λ e.
-      yields-bind (next-yields (f .variables) l (arguments l)) λ p o.
-      operation-keeps (p .0) (p .1) (sound (f .variables) (p .0) o) (ltb-true (length (f .lines)) maxLines e)
-
-  pub predicate-keeps : Yields (λ line. SoundFile (withLine f line)) (readPredicate f l)
-  unfolding readPredicate
-  predicate-keeps =
-      yields-ensure (ltb (length (f .lines)) maxLines) _ λ e.
-      operation-keeps Absent (arguments l) tt (ltb-true (length (f .lines)) maxLines e)
+      yields-bind (output-yields form (f .variables) l (arguments l)) λ p o.
+      operation-keeps (p .0) (p .1) o (ltb-true (length (f .lines)) maxLines e)
 
 -- ---- lines that are read have room in the table
 storable : (xs : List Variable) (o : Operand) → SoundOperand xs o → Storable o
@@ -183,15 +185,9 @@ module _ (f : File) (l : TextLine) where
   with-room : {r : Result Line} → length (f .lines) < maxLines → Yields StorableLine r → Yields (λ line. (length (f .lines) < maxLines) × StorableLine line) r
   with-room h y = record { holds = λ line e. (h, y .holds line e) }
 
-  pub constraint-fits : Yields (λ line. (length (f .lines) < maxLines) × StorableLine line) (readConstraint f l)
-  unfolding readConstraint
-  constraint-fits =
+  pub statement-fits : (form : Form) → Yields (λ line. (length (f .lines) < maxLines) × StorableLine line) (readStatement form f l)
+  unfolding readStatement
+  statement-fits form =
       yields-ensure (ltb (length (f .lines)) maxLines) _ λ e.
-      yields-bind (next-yields (f .variables) l (arguments l)) λ p o.
-      with-room (ltb-true (length (f .lines)) maxLines e) (operation-storable (p .0) (p .1) (sound (f .variables) (p .0) o))
-
-  pub predicate-fits : Yields (λ line. (length (f .lines) < maxLines) × StorableLine line) (readPredicate f l)
-  unfolding readPredicate
-  predicate-fits =
-      yields-ensure (ltb (length (f .lines)) maxLines) _ λ e.
-      with-room (ltb-true (length (f .lines)) maxLines e) (operation-storable Absent (arguments l) tt)
+      yields-bind (output-yields form (f .variables) l (arguments l)) λ p o.
+      with-room (ltb-true (length (f .lines)) maxLines e) (operation-storable (p .0) (p .1) o)

@@ -1,5 +1,5 @@
 -- What the reader's own answers and tables mean, in terms of the definitions.
-use Prim.Native.Nat.{ℕ, _+_, _≤_, _<_}
+use Prim.Native.Nat.{ℕ, _+_, _%_, _^_, _≤_, _<_}
 use mathlib.Core.Path.{_≡_}
 use mathlib.Core.Bool.{true, cond, not, _&&_}
 use mathlib.Core.List.{List}
@@ -9,14 +9,19 @@ use lib.ListN.{length, take, drop}
 use Rattle.edition.specs.declared.Edition.{Edition}
 use Rattle.edition.specs.Edition.{editionNumbered, maxVariables, maxLines, maxNameBytes}
 use Rattle.refusal.specs.declared.Subject.the-variants.{Constraint}
-use Rattle.refusal.specs.Numbers.{overLimit, nameTaken, typeRuleBroken}
+use Rattle.refusal.specs.Numbers.{misspelt, notAWidth, numberTooLarge, overLimit, nameTaken, typeRuleBroken}
 use Rattle.refusal.specs.Lists.{isThere}
-use Rattle.refusal.specs.Result.{Result, accepted, refused, refusal, ensure, _>>_}
+use Rattle.refusal.specs.Result.{Result, accepted, refused, refusal, ensure, _>>=_, _>>_}
 use Rattle.text.specs.declared.Number.{Number}
 use Rattle.text.specs.declared.Number.the-variants.{Value, TooBig, Misspelt}
+use Rattle.text.specs.declared.TypeRead.{TypeRead}
+use Rattle.text.specs.declared.TypeRead.the-variants.{Width, NoWidth, NoType}
+use Rattle.text.specs.declared.Class.the-variants.{Solid}
+use Rattle.text.specs.Scan.{isOf, past}
 use Rattle.text.specs.Reading.{noMoreTokens}
 use Rattle.text.specs.Lines.{TextLine, Token, tokensFrom}
 use Rattle.constraint.specs.declared.Operand.{Operand}
+use Rattle.constraint.specs.declared.Operand.the-variants.{Const}
 use Rattle.constraint.specs.declared.Operands.{Operands}
 use Rattle.constraint.specs.declared.Line.{Line}
 use Rattle.constraint.specs.declared.Taken.{Taken}
@@ -44,9 +49,13 @@ use Rattle.constraint.specs.File.{Variable, File, variableNamed}
 use Rattle.spelling.specs.Operators.{isReserved}
 use Rattle.constraint.specs.Tables.{variablesIn, linesIn, tableWords, StorableLine}
 use Rattle.constraint.specs.Types.{wellTyped}
-use Rattle.constraint.specs.Read.{at}
+use Rattle.constraint.specs.Read.{at, inFront}
 
 -- TOKENS
+
+-- the values of a byte
+abbrev pub bytes : ℕ
+bytes = 256
 
 -- the token from a place to the end of a prefix of the file
 abbrev pub tokenAt : List ℕ → ℕ → Token
@@ -70,6 +79,16 @@ abbrev pub operandResult : Token → OperandRead → Result Operand
 operandResult t (Good o) = accepted o
 operandResult t (Bad number) = refused (at t number)
 
+-- a constant by its number and its type, as they were read
+abbrev pub constantOf : Number → TypeRead → OperandRead
+constantOf Misspelt type = Bad misspelt
+constantOf TooBig NoType = Bad misspelt
+constantOf TooBig NoWidth = Bad notAWidth
+constantOf TooBig (Width k) = Bad numberTooLarge
+constantOf (Value v) NoType = Bad misspelt
+constantOf (Value v) NoWidth = Bad notAWidth
+constantOf (Value v) (Width k) = Good (Const (record { width = k; value = v % 2 ^ k }))
+
 -- a variable by the length of its name and its width, or the number of the token's refusal
 abbrev pub declarationResult : Token → Declaration → Result Variable
 declarationResult t (Fresh len k) = accepted (record { name = take len (t .bytes); width = k })
@@ -91,6 +110,12 @@ abbrev pub takenResult : List ℕ → Taken → Result (Operand × List Token)
 takenResult line (Got o i) = accepted (o, tokensFrom true i (drop i line))
 takenResult line (Halt r) = refused r
 
+-- the operand that a reading makes of the token that starts at a place, and the tokens behind it
+unfoldable pub takenFrom : (Token → Result Operand) → List ℕ → ℕ → Result (Operand × List Token)
+takenFrom read line start =
+    let stop = past (isOf Solid) line start in
+    read (tokenAt (take stop line) start) >>= λ o. accepted (o, tokensFrom true stop (drop stop line))
+
 abbrev pub TakenWithin : List ℕ → Taken → Type 0
 TakenWithin line (Got o i) = i ≤ length line
 TakenWithin line (Halt r) = Unit {0}
@@ -103,6 +128,11 @@ operandsResult line (HaltAll r) = refused r
 abbrev pub AllWithin : List ℕ → TakenAll → Type 0
 AllWithin line (All os i) = i ≤ length line
 AllWithin line (HaltAll r) = Unit {0}
+
+-- operands with one in front of them
+abbrev pub takenBehind : Operand → Result (Operands × List Token) → Result (Operands × List Token)
+takenBehind o (accepted p) = accepted (inFront o (p .0), p .1)
+takenBehind o (refused r) = refused r
 
 -- the line, unless there are more tokens or it breaks its type rule; `start` is the operator's place
 abbrev pub finished : List Variable → Line → ℕ → List Token → Result Line

@@ -24,7 +24,9 @@ use Rattle.constraint.specs.declared.Operand.the-variants.{Absent, Var, 
 use Rattle.constraint.specs.declared.Operands.{Operands}
 use Rattle.constraint.specs.declared.Line.{Line}
 use Rattle.constraint.specs.declared.Kind.{Kind}
-use Rattle.constraint.specs.declared.Kind.the-variants.{Skipped, OfVersion, OfExpectation, OfDeclarations, OfConstraint, OfPredicate, OfNoKind}
+use Rattle.constraint.specs.declared.Kind.the-variants.{Skipped, OfVersion, OfExpectation, OfDeclarations, OfStatement, OfNoKind}
+use Rattle.constraint.specs.declared.Form.{Form}
+use Rattle.constraint.specs.declared.Form.the-variants.{WithOutput, Predicate}
 use Rattle.constraint.specs.File.{Variable, File, emptyFile, withVersion, withExpectation, withVariable, withLine, edition, variableNamed}
 use Rattle.constraint.specs.Types.{wellTyped}
 use Rattle.spelling.specs.Operators.{operatorNamed, isReserved}
@@ -134,6 +136,10 @@ noOperands = record { first = Absent; second = Absent; third = Absent }
 abbrev pub inFront : Operand → Operands → Operands
 inFront o os = record { first = o; second = os .first; third = os .second }
 
+-- an operator takes 1 to 3 operands
+abbrev pub maxOperands : ℕ
+maxOperands = 3
+
 -- the next n operands, and the tokens behind them
 unfoldable pub readOperands : List Variable → TextLine → ℕ → List Token → Result (Operands × List Token)
 readOperands xs l zero ts = accepted (noOperands, ts)
@@ -153,18 +159,17 @@ readOperation f l output ts = do
   ensure (wellTyped (f .variables) line) (at t typeRuleBroken)
   accepted line
 
--- "`c` takes an output (variable or constant), an operator, its operands"
-unfoldable pub readConstraint : File → TextLine → Result Line
-readConstraint f l = do
-  ensure (ltb (length (f .lines)) maxLines) (atStart l overLimit)
-  (output, ts) ← nextOperand (f .variables) l (arguments l)
-  readOperation f l output ts
+-- the output of a line, and the tokens behind it; a `p` line has none
+unfoldable pub nextOutput : Form → List Variable → TextLine → List Token → Result (Operand × List Token)
+nextOutput WithOutput xs l ts = nextOperand xs l ts
+nextOutput Predicate xs l ts = accepted (Absent, ts)
 
--- "`p` an operator and its operands"
-unfoldable pub readPredicate : File → TextLine → Result Line
-readPredicate f l = do
+-- "`c` takes an output (variable or constant), an operator, its operands; `p` an operator and its operands"
+unfoldable pub readStatement : Form → File → TextLine → Result Line
+readStatement form f l = do
   ensure (ltb (length (f .lines)) maxLines) (atStart l overLimit)
-  readOperation f l Absent (arguments l)
+  (output, ts) ← nextOutput form (f .variables) l (arguments l)
+  readOperation f l output ts
 
 -- the file with the line that was read
 abbrev pub addLine : File → Result Line → Result File
@@ -180,8 +185,8 @@ kindOf s =
     (cond (leads (code "v") s) OfVersion
     (cond (leads (code "e") s) OfExpectation
     (cond (leads (code "d") s) OfDeclarations
-    (cond (leads (code "c") s) OfConstraint
-    (cond (leads (code "p") s) OfPredicate
+    (cond (leads (code "c") s) (OfStatement WithOutput)
+    (cond (leads (code "p") s) (OfStatement Predicate)
     OfNoKind)))))
 
 -- a line of a kind
@@ -190,8 +195,7 @@ readAs Skipped f l = accepted f
 readAs OfVersion f l = readVersion f l
 readAs OfExpectation f l = readExpectation f l
 readAs OfDeclarations f l = readDeclarations f l
-readAs OfConstraint f l = addLine f (readConstraint f l)
-readAs OfPredicate f l = addLine f (readPredicate f l)
+readAs (OfStatement form) f l = addLine f (readStatement form f l)
 readAs OfNoKind f l = refused (atStart l unknownLine)
 
 unfoldable pub readLine : File → TextLine → Result File

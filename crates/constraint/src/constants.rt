@@ -1,32 +1,29 @@
 // Constants, `digits:iK`.
 use super::Operand;
 use super::OperandRead;
+use super::Taken;
+use super::header::refusal;
 use operator::Word;
 use operator::rules::reduced;
 use refusal::Refusal;
-use text::Class;
 use text::Number;
 use text::TypeRead;
-use text::numbers::number_at;
-use text::numbers::type_behind;
-use text::scan::scan;
+use text::numbers::counted;
+use text::numbers::digits_at;
+use text::numbers::type_found;
 ghost use mathlib.Core.Path.{_≡_};
 ghost use Prim.Native.Nat.{_≤_};
 ghost use lib.ListN.{length};
 ghost use Rattle.constraint.specs.Read.{readConstant};
-ghost use Rattle.constraint.specs.Answers.{tokenAt, operandResult};
+ghost use Rattle.constraint.specs.Answers.{constantOf, takenFrom, takenResult, TakenWithin};
 
 // The digits of a constant, at most.
 const MAX_DIGITS: usize = 20;
 
-// The constant from `at` to the end.
-pub fn constant(text: &[u8], at: usize) -> OperandRead
-    requires { ⌜ at ≤ length (now text) ⌝ }
-    ensures { λ r. ⌜ operandResult (tokenAt (now (text .entry)) at) r ≡ readConstant (tokenAt (now (text .entry)) at) ⌝ }
+// The constant with this number and this type.
+fn constant_of(number: Number, kind: TypeRead) -> OperandRead
+    ensures { λ r. ⌜ r ≡ constantOf number kind ⌝ }
 {
-    let colon = scan(text, at, Class::Until(b':'));
-    let number = number_at(&text[..colon], at, MAX_DIGITS);
-    let kind = type_behind(text, colon);
     match number {
         Number::Misspelt => OperandRead::Bad(Refusal::MISSPELT),
         Number::TooBig => match kind {
@@ -42,5 +39,23 @@ pub fn constant(text: &[u8], at: usize) -> OperandRead
                 value: reduced(k, v),
             })),
         },
+    }
+}
+
+// The constant whose token starts at `at`.
+pub(crate) fn constant(line: &[u8], at: usize) -> Taken
+    requires { ⌜ at ≤ length (now line) ⌝ }
+    ensures { λ r. ⌜ (takenResult (now (line .entry)) r ≡ takenFrom readConstant (now (line .entry)) at) × TakenWithin (now (line .entry)) r ⌝ }
+{
+    let digits = digits_at(line, at);
+    let colon = digits.stop;
+    let read = digits.number;
+    let number = counted(read, colon - at, MAX_DIGITS);
+    let found = type_found(line, colon);
+    let stop = found.stop;
+    let kind = found.kind;
+    match constant_of(number, kind) {
+        OperandRead::Bad(n) => Taken::Halt(refusal(n, at)),
+        OperandRead::Good(o) => Taken::Got(o, stop),
     }
 }

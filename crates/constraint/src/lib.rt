@@ -103,9 +103,14 @@ pub enum Kind {
     OfVersion,
     OfExpectation,
     OfDeclarations,
-    OfConstraint,
-    OfPredicate,
+    OfStatement(Form),
     OfNoKind,
+}
+
+// The forms of a line that must hold: `c`, which has an output, and `p`, which has none.
+pub enum Form {
+    WithOutput,
+    Predicate,
 }
 
 pub enum Step {

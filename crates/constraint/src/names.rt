@@ -3,7 +3,8 @@ use super::Declaration;
 use super::Found;
 use super::Operand;
 use super::OperandRead;
-use super::constants::constant;
+use super::Taken;
+use super::header::refusal;
 use edition::Edition;
 use refusal::Refusal;
 use spelling::is_reserved;
@@ -12,17 +13,25 @@ use text::TypeRead;
 use text::compare::same_part;
 use text::numbers::type_behind;
 use text::scan::is_name;
+use text::scan::name_bytes;
 use text::scan::scan;
+use text::scan::token_ends;
 ghost use mathlib.Core.Path.{_≡_};
+ghost use mathlib.Core.Bool.{true};
 ghost use mathlib.Core.List.{List};
-ghost use Prim.Native.Nat.{ℕ, _≤_};
-ghost use lib.ListN.{length, drop};
+ghost use Prim.Native.Nat.{ℕ, _≤_, _<_};
+ghost use lib.ListN.{length, getD, drop};
 ghost use Rattle.edition.specs.declared.Edition.{Edition as TheEdition};
 ghost use Rattle.edition.specs.Edition.{maxVariables};
+ghost use Rattle.text.specs.Bytes.{isLetter};
 ghost use Rattle.constraint.specs.File.{variableNamed};
 ghost use Rattle.constraint.specs.Tables.{variablesIn};
 ghost use Rattle.constraint.specs.Read.{readVariable, readOperand, declare as declareBy};
-ghost use Rattle.constraint.specs.Answers.{tokenAt, place, operandResult, declarationResult, newName, Fits};
+ghost use Rattle.constraint.specs.Claims.{Distinct};
+ghost use Rattle.constraint.specs.Answers.{bytes, tokenAt, takenFrom, takenResult, TakenWithin, place, operandResult, declarationResult, newName, Fits};
+
+// The values of a byte.
+pub(crate) const BYTES: usize = 256;
 
 // The first of the n variables whose name is the bytes from `at` to the end of the text.
 pub fn lookup<'a>(
@@ -48,43 +57,89 @@ pub fn lookup<'a>(
     Found::Nowhere
 }
 
+// The variable whose name is the bytes from `at` to the end of the text, where no two have the same name.
+// First comes a guess: the variable declared last among those whose names end in the same byte.
+fn find<'a>(
+    file: &[u8],
+    starts: &'a [usize; Edition::VARIABLES],
+    lens: &'a [usize; Edition::VARIABLES],
+    guesses: &'a [usize; BYTES],
+    n: usize,
+    text: &[u8],
+    at: usize,
+) -> Found
+    requires { ⌜ (at < length (now text)) × (n ≤ maxVariables) ⌝ }
+    ensures { λ r. ⌜ ((widths : List ℕ) → Distinct (variablesIn (now (file .entry)) (now (starts .entry)) (now (lens .entry)) widths n) → place r ≡ variableNamed (drop at (now (text .entry))) (variablesIn (now (file .entry)) (now (starts .entry)) (now (lens .entry)) widths n)) ⌝ }
+{
+    let end = text.len() - 1;
+    let key = text[end] as usize;
+    let guess = guesses[key];
+    if guess < n {
+        let start = starts[guess];
+        let len = lens[guess];
+        if same_part(file, start, len, text, at) {
+            return Found::At(guess);
+        }
+    }
+    lookup(file, starts, lens, n, text, at)
+}
+
+// Names that end as the one that stops at `end` are guessed to be variable k's.
+pub(crate) fn remember(guesses: &mut [usize; BYTES], file: &[u8], end: usize, k: usize)
+    requires { ⌜ (length (now guesses) ≡ bytes) × (end ≤ length (now file)) ⌝ }
+    ensures { λ _. ⌜ length (now (guesses .exit)) ≡ bytes ⌝ }
+{
+    if 0 < end {
+        let last = end - 1;
+        let key = file[last] as usize;
+        guesses[key] = k;
+    }
+}
+
 // A variable that is used.
 fn variable<'a>(
     file: &[u8],
     starts: &'a [usize; Edition::VARIABLES],
     lens: &'a [usize; Edition::VARIABLES],
+    guesses: &'a [usize; BYTES],
     n: usize,
     text: &[u8],
     at: usize,
 ) -> OperandRead
-    requires { ⌜ (at ≤ length (now text)) × (n ≤ maxVariables) ⌝ }
-    ensures { λ r. ⌜ ((widths : List ℕ) → operandResult (tokenAt (now (text .entry)) at) r ≡ readVariable (variablesIn (now (file .entry)) (now (starts .entry)) (now (lens .entry)) widths n) (tokenAt (now (text .entry)) at)) ⌝ }
+    requires { ⌜ (at < length (now text)) × (n ≤ maxVariables) ⌝ }
+    ensures { λ r. ⌜ ((widths : List ℕ) → Distinct (variablesIn (now (file .entry)) (now (starts .entry)) (now (lens .entry)) widths n) → operandResult (tokenAt (now (text .entry)) at) r ≡ readVariable (variablesIn (now (file .entry)) (now (starts .entry)) (now (lens .entry)) widths n) (tokenAt (now (text .entry)) at)) ⌝ }
 {
     if Edition::NAME_BYTES < text.len() - at {
         return OperandRead::Bad(Refusal::OVER_LIMIT);
     }
-    match lookup(file, starts, lens, n, text, at) {
+    match find(file, starts, lens, guesses, n, text, at) {
         Found::At(i) => OperandRead::Good(Operand::Var(i)),
         Found::Nowhere => OperandRead::Bad(Refusal::NOT_DECLARED),
     }
 }
 
-// The operand from `at` to the end of the text.
-pub(crate) fn operand<'a>(
+// The operand whose token starts at `at`, with a letter.
+pub(crate) fn named<'a>(
     file: &[u8],
     starts: &'a [usize; Edition::VARIABLES],
     lens: &'a [usize; Edition::VARIABLES],
+    guesses: &'a [usize; BYTES],
     n: usize,
-    text: &[u8],
+    line: &[u8],
     at: usize,
-) -> OperandRead
-    requires { ⌜ (at ≤ length (now text)) × (n ≤ maxVariables) ⌝ }
-    ensures { λ r. ⌜ ((widths : List ℕ) → operandResult (tokenAt (now (text .entry)) at) r ≡ readOperand (variablesIn (now (file .entry)) (now (starts .entry)) (now (lens .entry)) widths n) (tokenAt (now (text .entry)) at)) ⌝ }
+) -> Taken
+    requires { ⌜ (at < length (now line)) × (n ≤ maxVariables) × (isLetter (getD (now line) at 0) ≡ true) ⌝ }
+    ensures { λ r. ⌜ ((widths : List ℕ) → Distinct (variablesIn (now (file .entry)) (now (starts .entry)) (now (lens .entry)) widths n) → takenResult (now (line .entry)) r ≡ takenFrom (readOperand (variablesIn (now (file .entry)) (now (starts .entry)) (now (lens .entry)) widths n)) (now (line .entry)) at) × TakenWithin (now (line .entry)) r ⌝ }
 {
-    if is_name(text, at) {
-        variable(file, starts, lens, n, text, at)
+    let next = at + 1;
+    let stop = name_bytes(line, next);
+    if token_ends(line, stop) {
+        match variable(file, starts, lens, guesses, n, &line[..stop], at) {
+            OperandRead::Bad(number) => Taken::Halt(refusal(number, at)),
+            OperandRead::Good(o) => Taken::Got(o, stop),
+        }
     } else {
-        constant(text, at)
+        Taken::Halt(refusal(Refusal::MISSPELT, at))
     }
 }
 

@@ -1,13 +1,15 @@
 // The `c` and `p` lines.
+use super::Form;
 use super::Line;
 use super::LineRead;
 use super::Operand;
-use super::OperandRead;
 use super::Operands;
 use super::Taken;
 use super::TakenAll;
+use super::constants::constant;
 use super::header::refusal;
-use super::names::operand;
+use super::names::BYTES;
+use super::names::named;
 use super::typing::well_typed;
 use edition::Edition;
 use operator::rules::arity;
@@ -15,53 +17,103 @@ use refusal::Refusal;
 use spelling::Spelt;
 use spelling::operator_at;
 use text::Next;
+use text::scan::is_letter;
 use text::scan::next_token;
+use text::scan::spaces;
 ghost use mathlib.Core.Path.{_≡_};
 ghost use mathlib.Core.Bool.{true};
 ghost use mathlib.Core.List.{List};
-ghost use Prim.Native.Nat.{ℕ, _+_, _≤_, _<_};
+ghost use Prim.Native.Nat.{ℕ, _+_, _-_, _≤_, _<_};
 ghost use lib.ListN.{length, drop};
 ghost use Rattle.edition.specs.Edition.{maxVariables};
 ghost use Rattle.text.specs.Lines.{tokensFrom};
 ghost use Rattle.constraint.specs.File.{File};
 ghost use Rattle.constraint.specs.Tables.{variablesIn};
-ghost use Rattle.constraint.specs.Read.{inFront, nextOperand, readOperands, readOperation, readConstraint, readPredicate};
-ghost use Rattle.constraint.specs.Answers.{lineAt, takenResult, TakenWithin, operandsResult, AllWithin, finished, lineResult};
+ghost use Rattle.constraint.specs.Claims.{Distinct};
+ghost use Rattle.constraint.specs.Read.{nextOperand, readOperands, maxOperands, readOperation, nextOutput, readStatement};
+ghost use Rattle.constraint.specs.Answers.{lineAt, takenResult, TakenWithin, operandsResult, AllWithin, takenBehind, finished, lineResult};
 
 // The operand of the next token of the line from `i` on.
 fn take_operand<'a>(
     file: &[u8],
     starts: &'a [usize; Edition::VARIABLES],
     lens: &'a [usize; Edition::VARIABLES],
+    guesses: &'a [usize; BYTES],
     n: usize,
     line: &[u8],
     i: usize,
 ) -> Taken
     requires { ⌜ (i ≤ length (now line)) × (n ≤ maxVariables) ⌝ }
-    ensures { λ r. ⌜ ((widths : List ℕ) (start next : ℕ) → start ≤ length (now (line .entry)) → takenResult (now (line .entry)) r ≡ nextOperand (variablesIn (now (file .entry)) (now (starts .entry)) (now (lens .entry)) widths n) (lineAt (now (line .entry)) start next) (tokensFrom true i (drop i (now (line .entry))))) × TakenWithin (now (line .entry)) r ⌝ }
+    ensures { λ r. ⌜ ((widths : List ℕ) (start next : ℕ) → start ≤ length (now (line .entry)) → Distinct (variablesIn (now (file .entry)) (now (starts .entry)) (now (lens .entry)) widths n) → takenResult (now (line .entry)) r ≡ nextOperand (variablesIn (now (file .entry)) (now (starts .entry)) (now (lens .entry)) widths n) (lineAt (now (line .entry)) start next) (tokensFrom true i (drop i (now (line .entry))))) × TakenWithin (now (line .entry)) r ⌝ }
 {
-    match next_token(line, i) {
-        Next::Nothing => Taken::Halt(refusal(Refusal::TOKEN_COUNT, line.len())),
-        Next::Found(t) => {
-            let start = t.start;
-            let stop = t.stop;
-            match operand(file, starts, lens, n, &line[..stop], start) {
-                OperandRead::Bad(number) => Taken::Halt(refusal(number, start)),
-                OperandRead::Good(o) => Taken::Got(o, stop),
-            }
-        }
+    let start = spaces(line, i);
+    if start == line.len() {
+        return Taken::Halt(refusal(Refusal::TOKEN_COUNT, start));
+    }
+    if is_letter(line[start]) {
+        named(file, starts, lens, guesses, n, line, start)
+    } else {
+        constant(line, start)
     }
 }
 
-fn in_front(o: Operand, rest: Operands) -> Operands
-    ensures { λ r. ⌜ r ≡ inFront o rest ⌝ }
+// The last of three operands.
+fn third_operand<'a>(
+    file: &[u8],
+    starts: &'a [usize; Edition::VARIABLES],
+    lens: &'a [usize; Edition::VARIABLES],
+    guesses: &'a [usize; BYTES],
+    n: usize,
+    line: &[u8],
+    i: usize,
+    first: Operand,
+    second: Operand,
+) -> TakenAll
+    requires { ⌜ (i ≤ length (now line)) × (n ≤ maxVariables) ⌝ }
+    ensures { λ r. ⌜ ((widths : List ℕ) (start next : ℕ) → start ≤ length (now (line .entry)) → Distinct (variablesIn (now (file .entry)) (now (starts .entry)) (now (lens .entry)) widths n) → operandsResult (now (line .entry)) r ≡ takenBehind first (takenBehind second (readOperands (variablesIn (now (file .entry)) (now (starts .entry)) (now (lens .entry)) widths n) (lineAt (now (line .entry)) start next) 1 (tokensFrom true i (drop i (now (line .entry))))))) × AllWithin (now (line .entry)) r ⌝ }
 {
-    let second = rest.first;
-    let third = rest.second;
-    Operands {
-        first: o,
-        second,
-        third,
+    match take_operand(file, starts, lens, guesses, n, line, i) {
+        Taken::Halt(r) => TakenAll::HaltAll(r),
+        Taken::Got(third, j) => TakenAll::All(
+            Operands {
+                first,
+                second,
+                third,
+            },
+            j,
+        ),
+    }
+}
+
+// The second of `count` operands, and any behind it.
+fn second_operand<'a>(
+    file: &[u8],
+    starts: &'a [usize; Edition::VARIABLES],
+    lens: &'a [usize; Edition::VARIABLES],
+    guesses: &'a [usize; BYTES],
+    n: usize,
+    line: &[u8],
+    i: usize,
+    count: usize,
+    first: Operand,
+) -> TakenAll
+    requires { ⌜ (i ≤ length (now line)) × (n ≤ maxVariables) × (2 ≤ count) × (count ≤ maxOperands) ⌝ }
+    ensures { λ r. ⌜ ((widths : List ℕ) (start next : ℕ) → start ≤ length (now (line .entry)) → Distinct (variablesIn (now (file .entry)) (now (starts .entry)) (now (lens .entry)) widths n) → operandsResult (now (line .entry)) r ≡ takenBehind first (readOperands (variablesIn (now (file .entry)) (now (starts .entry)) (now (lens .entry)) widths n) (lineAt (now (line .entry)) start next) (count - 1) (tokensFrom true i (drop i (now (line .entry)))))) × AllWithin (now (line .entry)) r ⌝ }
+{
+    match take_operand(file, starts, lens, guesses, n, line, i) {
+        Taken::Halt(r) => TakenAll::HaltAll(r),
+        Taken::Got(second, j) => if count < 3 {
+            TakenAll::All(
+                Operands {
+                    first,
+                    second,
+                    third: Operand::Absent,
+                },
+                j,
+            )
+        } else {
+            third_operand(file, starts, lens, guesses, n, line, j, first, second)
+        },
     }
 }
 
@@ -70,29 +122,28 @@ fn take_operands<'a>(
     file: &[u8],
     starts: &'a [usize; Edition::VARIABLES],
     lens: &'a [usize; Edition::VARIABLES],
+    guesses: &'a [usize; BYTES],
     n: usize,
     line: &[u8],
     i: usize,
     count: usize,
 ) -> TakenAll
-    requires { ⌜ (i ≤ length (now line)) × (n ≤ maxVariables) ⌝ }
-    ensures { λ r. ⌜ ((widths : List ℕ) (start next : ℕ) → start ≤ length (now (line .entry)) → operandsResult (now (line .entry)) r ≡ readOperands (variablesIn (now (file .entry)) (now (starts .entry)) (now (lens .entry)) widths n) (lineAt (now (line .entry)) start next) count (tokensFrom true i (drop i (now (line .entry))))) × AllWithin (now (line .entry)) r ⌝ }
+    requires { ⌜ (i ≤ length (now line)) × (n ≤ maxVariables) × (1 ≤ count) × (count ≤ maxOperands) ⌝ }
+    ensures { λ r. ⌜ ((widths : List ℕ) (start next : ℕ) → start ≤ length (now (line .entry)) → Distinct (variablesIn (now (file .entry)) (now (starts .entry)) (now (lens .entry)) widths n) → operandsResult (now (line .entry)) r ≡ readOperands (variablesIn (now (file .entry)) (now (starts .entry)) (now (lens .entry)) widths n) (lineAt (now (line .entry)) start next) count (tokensFrom true i (drop i (now (line .entry))))) × AllWithin (now (line .entry)) r ⌝ }
 {
-    if count == 0 {
-        return TakenAll::All(
-            Operands {
-                first: Operand::Absent,
-                second: Operand::Absent,
-                third: Operand::Absent,
-            },
-            i,
-        );
-    }
-    match take_operand(file, starts, lens, n, line, i) {
+    match take_operand(file, starts, lens, guesses, n, line, i) {
         Taken::Halt(r) => TakenAll::HaltAll(r),
-        Taken::Got(o, j) => match take_operands(file, starts, lens, n, line, j, count - 1) {
-            TakenAll::HaltAll(r) => TakenAll::HaltAll(r),
-            TakenAll::All(rest, k) => TakenAll::All(in_front(o, rest), k),
+        Taken::Got(first, j) => if count < 2 {
+            TakenAll::All(
+                Operands {
+                    first,
+                    second: Operand::Absent,
+                    third: Operand::Absent,
+                },
+                j,
+            )
+        } else {
+            second_operand(file, starts, lens, guesses, n, line, j, count, first)
         },
     }
 }
@@ -124,6 +175,7 @@ fn operation<'a>(
     file: &[u8],
     starts: &'a [usize; Edition::VARIABLES],
     lens: &'a [usize; Edition::VARIABLES],
+    guesses: &'a [usize; BYTES],
     widths: &[u64; Edition::VARIABLES],
     n: usize,
     line: &[u8],
@@ -131,7 +183,7 @@ fn operation<'a>(
     output: Operand,
 ) -> LineRead
     requires { ⌜ (i ≤ length (now line)) × (n ≤ maxVariables) ⌝ }
-    ensures { λ r. ⌜ ((f : File) (start next : ℕ) → f .variables ≡ variablesIn (now (file .entry)) (now (starts .entry)) (now (lens .entry)) (now (widths .entry)) n → start ≤ length (now (line .entry)) → lineResult r ≡ readOperation f (lineAt (now (line .entry)) start next) output (tokensFrom true i (drop i (now (line .entry))))) ⌝ }
+    ensures { λ r. ⌜ ((f : File) (start next : ℕ) → f .variables ≡ variablesIn (now (file .entry)) (now (starts .entry)) (now (lens .entry)) (now (widths .entry)) n → start ≤ length (now (line .entry)) → Distinct (f .variables) → lineResult r ≡ readOperation f (lineAt (now (line .entry)) start next) output (tokensFrom true i (drop i (now (line .entry))))) ⌝ }
 {
     match next_token(line, i) {
         Next::Nothing => LineRead::NoLine(refusal(Refusal::TOKEN_COUNT, line.len())),
@@ -140,7 +192,16 @@ fn operation<'a>(
             let stop = t.stop;
             match operator_at(&line[..stop], start) {
                 Spelt::Unknown => LineRead::NoLine(refusal(Refusal::UNKNOWN_OPERATOR, start)),
-                Spelt::Is(op) => match take_operands(file, starts, lens, n, line, stop, arity(op)) {
+                Spelt::Is(op) => match take_operands(
+                    file,
+                    starts,
+                    lens,
+                    guesses,
+                    n,
+                    line,
+                    stop,
+                    arity(op),
+                ) {
                     TakenAll::HaltAll(r) => LineRead::NoLine(r),
                     TakenAll::All(operands, j) => finish(
                         widths,
@@ -160,47 +221,48 @@ fn operation<'a>(
     }
 }
 
-// The `c` line from `at` to the end, of a file with m lines so far.
-pub fn constraint_line<'a>(
+// The output of a line of this form, from `i` on.
+fn take_output<'a>(
     file: &[u8],
     starts: &'a [usize; Edition::VARIABLES],
     lens: &'a [usize; Edition::VARIABLES],
-    widths: &[u64; Edition::VARIABLES],
+    guesses: &'a [usize; BYTES],
     n: usize,
-    m: usize,
     line: &[u8],
-    at: usize,
-) -> LineRead
-    requires { ⌜ (at < length (now line)) × (n ≤ maxVariables) ⌝ }
-    ensures { λ r. ⌜ ((f : File) (next : ℕ) → f .variables ≡ variablesIn (now (file .entry)) (now (starts .entry)) (now (lens .entry)) (now (widths .entry)) n → length (f .lines) ≡ m → lineResult r ≡ readConstraint f (lineAt (now (line .entry)) at next)) ⌝ }
+    i: usize,
+    form: Form,
+) -> Taken
+    requires { ⌜ (i ≤ length (now line)) × (n ≤ maxVariables) ⌝ }
+    ensures { λ r. ⌜ ((widths : List ℕ) (start next : ℕ) → start ≤ length (now (line .entry)) → Distinct (variablesIn (now (file .entry)) (now (starts .entry)) (now (lens .entry)) widths n) → takenResult (now (line .entry)) r ≡ nextOutput form (variablesIn (now (file .entry)) (now (starts .entry)) (now (lens .entry)) widths n) (lineAt (now (line .entry)) start next) (tokensFrom true i (drop i (now (line .entry))))) × TakenWithin (now (line .entry)) r ⌝ }
 {
-    if Edition::LINES <= m {
-        return LineRead::NoLine(refusal(Refusal::OVER_LIMIT, at));
-    }
-    let next = at + 1;
-    match take_operand(file, starts, lens, n, line, next) {
-        Taken::Halt(r) => LineRead::NoLine(r),
-        Taken::Got(output, i) => operation(file, starts, lens, widths, n, line, i, output),
+    match form {
+        Form::WithOutput => take_operand(file, starts, lens, guesses, n, line, i),
+        Form::Predicate => Taken::Got(Operand::Absent, i),
     }
 }
 
-// The `p` line from `at` to the end, of a file with m lines so far.
-pub fn predicate_line<'a>(
+// The `c` or `p` line from `at` to the end, of a file with m lines so far.
+pub fn statement_line<'a>(
     file: &[u8],
     starts: &'a [usize; Edition::VARIABLES],
     lens: &'a [usize; Edition::VARIABLES],
+    guesses: &'a [usize; BYTES],
     widths: &[u64; Edition::VARIABLES],
     n: usize,
     m: usize,
     line: &[u8],
     at: usize,
+    form: Form,
 ) -> LineRead
     requires { ⌜ (at < length (now line)) × (n ≤ maxVariables) ⌝ }
-    ensures { λ r. ⌜ ((f : File) (next : ℕ) → f .variables ≡ variablesIn (now (file .entry)) (now (starts .entry)) (now (lens .entry)) (now (widths .entry)) n → length (f .lines) ≡ m → lineResult r ≡ readPredicate f (lineAt (now (line .entry)) at next)) ⌝ }
+    ensures { λ r. ⌜ ((f : File) (next : ℕ) → f .variables ≡ variablesIn (now (file .entry)) (now (starts .entry)) (now (lens .entry)) (now (widths .entry)) n → length (f .lines) ≡ m → Distinct (f .variables) → lineResult r ≡ readStatement form f (lineAt (now (line .entry)) at next)) ⌝ }
 {
     if Edition::LINES <= m {
         return LineRead::NoLine(refusal(Refusal::OVER_LIMIT, at));
     }
     let next = at + 1;
-    operation(file, starts, lens, widths, n, line, next, Operand::Absent)
+    match take_output(file, starts, lens, guesses, n, line, next, form) {
+        Taken::Halt(r) => LineRead::NoLine(r),
+        Taken::Got(output, i) => operation(file, starts, lens, guesses, widths, n, line, i, output),
+    }
 }

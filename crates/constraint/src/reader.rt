@@ -1,5 +1,6 @@
 // Reading a file into tables, line by line.
 use super::Expectation;
+use super::Form;
 use super::Kind;
 use super::LineRead;
 use super::Progress;
@@ -9,8 +10,8 @@ use super::declarations::declaration_line;
 use super::header::expectation_line;
 use super::header::refusal;
 use super::header::version_line;
-use super::operations::constraint_line;
-use super::operations::predicate_line;
+use super::names::BYTES;
+use super::operations::statement_line;
 use super::tables::TABLE_WORDS;
 use super::tables::store_line;
 use edition::Edition;
@@ -36,7 +37,8 @@ ghost use Rattle.text.specs.Scan.{isOf};
 ghost use Rattle.constraint.specs.File.{emptyFile};
 ghost use Rattle.constraint.specs.Tables.{tableWords};
 ghost use Rattle.constraint.specs.Read.{kindOf, addLine, readLine, readFile};
-ghost use Rattle.constraint.specs.Answers.{lineResult, HasRoom, nothingRead, withLineRead, lineAt, held, Whole, fileHeld, stepResult, InTables, StepInTables};
+ghost use Rattle.constraint.specs.Claims.{Distinct};
+ghost use Rattle.constraint.specs.Answers.{bytes, heldVariables, lineResult, HasRoom, nothingRead, withLineRead, lineAt, held, Whole, fileHeld, stepResult, InTables, StepInTables};
 
 // The kind of the line from `at` to the end.
 fn kind_of(line: &[u8], at: usize) -> Kind
@@ -56,10 +58,10 @@ fn kind_of(line: &[u8], at: usize) -> Kind
         return Kind::OfDeclarations;
     }
     if leads(line, at, b'c') {
-        return Kind::OfConstraint;
+        return Kind::OfStatement(Form::WithOutput);
     }
     if leads(line, at, b'p') {
-        return Kind::OfPredicate;
+        return Kind::OfStatement(Form::Predicate);
     }
     Kind::OfNoKind
 }
@@ -100,12 +102,13 @@ fn read_line(
     at: usize,
     starts: &mut [usize; Edition::VARIABLES],
     lens: &mut [usize; Edition::VARIABLES],
+    guesses: &mut [usize; BYTES],
     widths: &mut [u64; Edition::VARIABLES],
     lines: &mut [u64; TABLE_WORDS],
     p: Progress,
 ) -> Step
-    requires { ⌜ (at < stop) × (stop ≤ length (now file)) × InTables p × Whole (held (now starts) (now lens) (now widths) (now lines)) ⌝ }
-    ensures { λ r. ⌜ ((next : ℕ) → stepResult (now (file .entry)) (held (now (starts .exit)) (now (lens .exit)) (now (widths .exit)) (now (lines .exit))) r ≡ readLine (fileHeld (now (file .entry)) (held (now (starts .entry)) (now (lens .entry)) (now (widths .entry)) (now (lines .entry))) p) (lineAt (take stop (now (file .entry))) at next)) × Whole (held (now (starts .exit)) (now (lens .exit)) (now (widths .exit)) (now (lines .exit))) × StepInTables r ⌝ }
+    requires { ⌜ (at < stop) × (stop ≤ length (now file)) × InTables p × Whole (held (now starts) (now lens) (now widths) (now lines)) × (length (now guesses) ≡ bytes) × Distinct (heldVariables (now file) (held (now starts) (now lens) (now widths) (now lines)) (p .variables)) ⌝ }
+    ensures { λ r. ⌜ ((next : ℕ) → stepResult (now (file .entry)) (held (now (starts .exit)) (now (lens .exit)) (now (widths .exit)) (now (lines .exit))) r ≡ readLine (fileHeld (now (file .entry)) (held (now (starts .entry)) (now (lens .entry)) (now (widths .entry)) (now (lines .entry))) p) (lineAt (take stop (now (file .entry))) at next)) × Whole (held (now (starts .exit)) (now (lens .exit)) (now (widths .exit)) (now (lines .exit))) × (length (now (guesses .exit)) ≡ bytes) × StepInTables r ⌝ }
 {
     let n = p.variables;
     let m = p.lines;
@@ -113,13 +116,20 @@ fn read_line(
         Kind::Skipped => Step::Next(p),
         Kind::OfVersion => version_line(&file[..stop], at, p),
         Kind::OfExpectation => expectation_line(&file[..stop], at, p),
-        Kind::OfDeclarations => declaration_line(file, stop, at, starts, lens, widths, p),
-        Kind::OfConstraint => {
-            let read = constraint_line(file, starts, lens, widths, n, m, &file[..stop], at);
-            add_line(lines, p, read)
-        }
-        Kind::OfPredicate => {
-            let read = predicate_line(file, starts, lens, widths, n, m, &file[..stop], at);
+        Kind::OfDeclarations => declaration_line(file, stop, at, starts, lens, guesses, widths, p),
+        Kind::OfStatement(form) => {
+            let read = statement_line(
+                file,
+                starts,
+                lens,
+                guesses,
+                widths,
+                n,
+                m,
+                &file[..stop],
+                at,
+                form,
+            );
             add_line(lines, p, read)
         }
         Kind::OfNoKind => Step::Stop(refusal(Refusal::UNKNOWN_LINE, at)),
@@ -133,17 +143,18 @@ fn read_any_line(
     at: usize,
     starts: &mut [usize; Edition::VARIABLES],
     lens: &mut [usize; Edition::VARIABLES],
+    guesses: &mut [usize; BYTES],
     widths: &mut [u64; Edition::VARIABLES],
     lines: &mut [u64; TABLE_WORDS],
     p: Progress,
 ) -> Step
-    requires { ⌜ (at ≤ stop) × (stop ≤ length (now file)) × InTables p × Whole (held (now starts) (now lens) (now widths) (now lines)) × (every (isOf Allowed) (drop at (take stop (now file))) ≡ true) ⌝ }
-    ensures { λ r. ⌜ ((next : ℕ) → stepResult (now (file .entry)) (held (now (starts .exit)) (now (lens .exit)) (now (widths .exit)) (now (lines .exit))) r ≡ readAnyLine TheConstraint readLine (fileHeld (now (file .entry)) (held (now (starts .entry)) (now (lens .entry)) (now (widths .entry)) (now (lines .entry))) p) (lineAt (take stop (now (file .entry))) at next)) × Whole (held (now (starts .exit)) (now (lens .exit)) (now (widths .exit)) (now (lines .exit))) × StepInTables r ⌝ }
+    requires { ⌜ (at ≤ stop) × (stop ≤ length (now file)) × InTables p × Whole (held (now starts) (now lens) (now widths) (now lines)) × (length (now guesses) ≡ bytes) × Distinct (heldVariables (now file) (held (now starts) (now lens) (now widths) (now lines)) (p .variables)) × (every (isOf Allowed) (drop at (take stop (now file))) ≡ true) ⌝ }
+    ensures { λ r. ⌜ ((next : ℕ) → stepResult (now (file .entry)) (held (now (starts .exit)) (now (lens .exit)) (now (widths .exit)) (now (lines .exit))) r ≡ readAnyLine TheConstraint readLine (fileHeld (now (file .entry)) (held (now (starts .entry)) (now (lens .entry)) (now (widths .entry)) (now (lines .entry))) p) (lineAt (take stop (now (file .entry))) at next)) × Whole (held (now (starts .exit)) (now (lens .exit)) (now (widths .exit)) (now (lines .exit))) × (length (now (guesses .exit)) ≡ bytes) × StepInTables r ⌝ }
 {
     if all(&file[..stop], at, Class::Space) {
         return Step::Next(p);
     }
-    read_line(file, stop, at, starts, lens, widths, lines, p)
+    read_line(file, stop, at, starts, lens, guesses, widths, lines, p)
 }
 
 // Whether a byte stands at `stop` that does not end a line.
@@ -174,11 +185,12 @@ fn read_lines(
     file: &[u8],
     starts: &mut [usize; Edition::VARIABLES],
     lens: &mut [usize; Edition::VARIABLES],
+    guesses: &mut [usize; BYTES],
     widths: &mut [u64; Edition::VARIABLES],
     lines: &mut [u64; TABLE_WORDS],
 ) -> Step
-    requires { ⌜ Whole (held (now starts) (now lens) (now widths) (now lines)) ⌝ }
-    ensures { λ r. ⌜ (stepResult (now (file .entry)) (held (now (starts .exit)) (now (lens .exit)) (now (widths .exit)) (now (lines .exit))) r ≡ readLines TheConstraint readLine emptyFile (linesOf (now (file .entry)))) × Whole (held (now (starts .exit)) (now (lens .exit)) (now (widths .exit)) (now (lines .exit))) × StepInTables r ⌝ }
+    requires { ⌜ Whole (held (now starts) (now lens) (now widths) (now lines)) × (length (now guesses) ≡ bytes) ⌝ }
+    ensures { λ r. ⌜ (stepResult (now (file .entry)) (held (now (starts .exit)) (now (lens .exit)) (now (widths .exit)) (now (lines .exit))) r ≡ readLines TheConstraint readLine emptyFile (linesOf (now (file .entry)))) × Whole (held (now (starts .exit)) (now (lens .exit)) (now (widths .exit)) (now (lines .exit))) × (length (now (guesses .exit)) ≡ bytes) × StepInTables r ⌝ }
 {
     let mut p = nothing();
     let mut i = 0;
@@ -188,7 +200,7 @@ fn read_lines(
             return Step::Stop(refusal(Refusal::BYTE_NOT_ALLOWED, stop));
         }
         let next = next_line(file, stop);
-        match read_any_line(file, stop, i, starts, lens, widths, lines, p) {
+        match read_any_line(file, stop, i, starts, lens, guesses, widths, lines, p) {
             Step::Stop(r) => {
                 return Step::Stop(r);
             }
@@ -215,7 +227,8 @@ pub fn read(
     if Edition::FILE_BYTES < file.len() {
         return Step::Stop(refusal(Refusal::FILE_TOO_LONG, Edition::FILE_BYTES));
     }
-    match read_lines(file, starts, lens, widths, lines) {
+    let mut guesses = [0usize; BYTES];
+    match read_lines(file, starts, lens, &mut guesses, widths, lines) {
         Step::Stop(r) => Step::Stop(r),
         Step::Next(p) => {
             let version = p.version;

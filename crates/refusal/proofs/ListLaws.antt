@@ -11,7 +11,7 @@ use lib.ListN.{length, getD, drop, drop-of-length-le}
 use lib.Seq.{drop-cons}
 use Rattle.refusal.specs.Lists.{firstFrom, isThere, every}
 use Rattle.refusal.proofs.ResultLaws.{never}
-use Rattle.refusal.proofs.BoolLaws.{and-true}
+use Rattle.refusal.proofs.BoolLaws.{and-false, and-true}
 
 -- a thing that is not there
 pub not-there : {A : Type 0} (o : Option A) → not (isThere o) ≡ true → o ≡ none
@@ -104,3 +104,9 @@ pub every-weaken : {A : Type 0} (p q : A → Bool) → ((a : A) → p a ≡ true
 unfolding every
 every-weaken p q f [] h = refl
 every-weaken p q f (b ∷ s) h = let z = and-true (p b) (every p s) h in rw (f b (z .0)) (every-weaken p q f s (z .1))
+
+-- one that does not pass
+pub every-broken : {A : Type 0} (p : A → Bool) (s : List A) (a : A) (t : List A) → p a ≡ false → every p (s ++ a ∷ t) ≡ false
+unfolding every
+every-broken p [] a t e = rw e
+every-broken p (b ∷ s) a t e = rw (every-broken p s a t e, and-false)

@@ -19,13 +19,14 @@ use Rattle.text.specs.Lines.{TextLine, Token, arguments}
 use Rattle.text.specs.Spelling.{isName, isNumeral, decimal, maxDigits, numberBound, isType, typeWidth, upTo, behind}
 use Rattle.spelling.specs.Operators.{operatorNamed, isReserved}
 use Rattle.constraint.specs.declared.Operand.{Operand}
-use Rattle.constraint.specs.declared.Operand.the-variants.{Absent}
 use Rattle.constraint.specs.declared.Line.{Line}
 use Rattle.constraint.specs.declared.Kind.{Kind}
-use Rattle.constraint.specs.declared.Kind.the-variants.{Skipped, OfVersion, OfExpectation, OfDeclarations, OfConstraint, OfPredicate, OfNoKind}
+use Rattle.constraint.specs.declared.Kind.the-variants.{Skipped, OfVersion, OfExpectation, OfDeclarations, OfStatement, OfNoKind}
+use Rattle.constraint.specs.declared.Form.{Form}
+use Rattle.constraint.specs.declared.Form.the-variants.{WithOutput, Predicate}
 use Rattle.constraint.specs.File.{Variable, File, emptyFile, withVersion, withExpectation, withVariable, edition, variableNamed}
 use Rattle.constraint.specs.Types.{wellTyped}
-use Rattle.constraint.specs.Read.{inHeader, readSingle, versionOf, readVersion, expectationOf, readExpectation, declare, declareAll, readDeclarations, readVariable, readConstant, readOperand, nextOperand, readOperands, readOperation, readConstraint, readPredicate, addLine, kindOf, readAs, readLine, readFile}
+use Rattle.constraint.specs.Read.{inHeader, readSingle, versionOf, readVersion, expectationOf, readExpectation, declare, declareAll, readDeclarations, readVariable, readConstant, readOperand, nextOperand, readOperands, readOperation, nextOutput, readStatement, addLine, kindOf, readAs, readLine, readFile}
 use Rattle.constraint.specs.Claims.{Each}
 use Rattle.spear.proofs.EndsLaws.{Ends, ends-accepted, ends-always, ends-bind, refuses-after}
 use Rattle.spear.proofs.WithinLaws.{LineWithin, TokenWithin, Within, arguments-within, start-within, next-within, no-more-within, text-within}
@@ -119,16 +120,17 @@ module _ (n : ℕ) where
       refuses-ensure (wellTyped (f .variables) (record { output = output; operator = op; operands = q .0 })) _ (k .0)
       refuses-accepted)
 
-  constraint-within : (f : File) (l : TextLine) → LineWithin n l → Refuses (Within n) (readConstraint f l)
-  unfolding readConstraint
-  constraint-within f l h =
-      refuses-ensure (ltb (length (f .lines)) maxLines) _ (start-within n l h) (
-      refuses-after (operand-ends (f .variables) l (arguments l) h (arguments-within n l h)) λ p k.
-      operation-within f l (p .0) (p .1) h k)
+  output-ends : (form : Form) (xs : List Variable) (l : TextLine) (ts : List Token) → LineWithin n l → Each (TokenWithin n) ts → Ends (Within n) (λ p. Each (TokenWithin n) (p .1)) (nextOutput form xs l ts)
+  unfolding nextOutput
+  output-ends WithOutput xs l ts h ks = operand-ends xs l ts h ks
+  output-ends Predicate xs l ts h ks = ends-accepted ks
 
-  predicate-within : (f : File) (l : TextLine) → LineWithin n l → Refuses (Within n) (readPredicate f l)
-  unfolding readPredicate
-  predicate-within f l h = refuses-ensure (ltb (length (f .lines)) maxLines) _ (start-within n l h) (operation-within f l Absent (arguments l) h (arguments-within n l h))
+  statement-within : (form : Form) (f : File) (l : TextLine) → LineWithin n l → Refuses (Within n) (readStatement form f l)
+  unfolding readStatement
+  statement-within form f l h =
+      refuses-ensure (ltb (length (f .lines)) maxLines) _ (start-within n l h) (
+      refuses-after (output-ends form (f .variables) l (arguments l) h (arguments-within n l h)) λ p k.
+      operation-within f l (p .0) (p .1) h k)
 
   add-within : (f : File) {r : Result Line} → Refuses (Within n) r → Refuses (Within n) (addLine f r)
   add-within f {r = accepted line} h = refuses-accepted
@@ -141,8 +143,7 @@ module _ (n : ℕ) where
   as-within OfVersion f l h = version-within f l h
   as-within OfExpectation f l h = expectation-within f l h
   as-within OfDeclarations f l h = declarations-within f l h
-  as-within OfConstraint f l h = add-within f (constraint-within f l h)
-  as-within OfPredicate f l h = add-within f (predicate-within f l h)
+  as-within (OfStatement form) f l h = add-within f (statement-within form f l h)
   as-within OfNoKind f l h = refuses-refused (start-within n l h)
 
   line-within : (f : File) (l : TextLine) → LineWithin n l → Refuses (Within n) (readLine f l)

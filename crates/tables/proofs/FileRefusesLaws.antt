@@ -18,13 +18,14 @@ use Rattle.text.specs.Lines.{TextLine, Token, arguments}
 use Rattle.text.specs.Spelling.{isName, isNumeral, decimal, maxDigits, numberBound, isType, typeWidth, upTo, behind}
 use Rattle.spelling.specs.Operators.{operatorNamed, isReserved}
 use Rattle.constraint.specs.declared.Operand.{Operand}
-use Rattle.constraint.specs.declared.Operand.the-variants.{Absent}
 use Rattle.constraint.specs.declared.Line.{Line}
 use Rattle.constraint.specs.declared.Kind.{Kind}
-use Rattle.constraint.specs.declared.Kind.the-variants.{Skipped, OfVersion, OfExpectation, OfDeclarations, OfConstraint, OfPredicate, OfNoKind}
+use Rattle.constraint.specs.declared.Kind.the-variants.{Skipped, OfVersion, OfExpectation, OfDeclarations, OfStatement, OfNoKind}
+use Rattle.constraint.specs.declared.Form.{Form}
+use Rattle.constraint.specs.declared.Form.the-variants.{WithOutput, Predicate}
 use Rattle.constraint.specs.File.{Variable, File, emptyFile, withVersion, withExpectation, withVariable, edition, variableNamed}
 use Rattle.constraint.specs.Types.{wellTyped}
-use Rattle.constraint.specs.Read.{inHeader, readSingle, versionOf, readVersion, expectationOf, readExpectation, declare, declareAll, readDeclarations, readVariable, readConstant, readOperand, nextOperand, readOperands, readOperation, readConstraint, readPredicate, addLine, kindOf, readAs, readLine, readFile}
+use Rattle.constraint.specs.Read.{inHeader, readSingle, versionOf, readVersion, expectationOf, readExpectation, declare, declareAll, readDeclarations, readVariable, readConstant, readOperand, nextOperand, readOperands, readOperation, nextOutput, readStatement, addLine, kindOf, readAs, readLine, readFile}
 use Rattle.tables.specs.Replies.{numbersOf, isOneOf}
 use Rattle.refusal.proofs.RefusesLaws.{Refuses, refuses-accepted, refuses-refused, refuses-cond, refuses-bind, refuses-ensure, refuses-given}
 use Rattle.tables.proofs.KnownLaws.{Known, constraint-count}
@@ -117,16 +118,17 @@ operation-refuses f l output ts =
     refuses-ensure (wellTyped (f .variables) (record { output = output; operator = op; operands = q .0 })) _ refl
     refuses-accepted)
 
-constraint-refuses : (f : File) (l : TextLine) → Refuses Known (readConstraint f l)
-unfolding readConstraint numbersOf isOneOf firstFrom
-constraint-refuses f l =
-    refuses-ensure (ltb (length (f .lines)) maxLines) _ refl (
-    refuses-bind (next-refuses (f .variables) l (arguments l)) λ p.
-    operation-refuses f l (p .0) (p .1))
+output-refuses : (form : Form) (xs : List Variable) (l : TextLine) (ts : List Token) → Refuses Known (nextOutput form xs l ts)
+unfolding nextOutput
+output-refuses WithOutput xs l ts = next-refuses xs l ts
+output-refuses Predicate xs l ts = refuses-accepted
 
-predicate-refuses : (f : File) (l : TextLine) → Refuses Known (readPredicate f l)
-unfolding readPredicate numbersOf isOneOf firstFrom
-predicate-refuses f l = refuses-ensure (ltb (length (f .lines)) maxLines) _ refl (operation-refuses f l Absent (arguments l))
+statement-refuses : (form : Form) (f : File) (l : TextLine) → Refuses Known (readStatement form f l)
+unfolding readStatement numbersOf isOneOf firstFrom
+statement-refuses form f l =
+    refuses-ensure (ltb (length (f .lines)) maxLines) _ refl (
+    refuses-bind (output-refuses form (f .variables) l (arguments l)) λ p.
+    operation-refuses f l (p .0) (p .1))
 
 add-refuses : (f : File) {r : Result Line} → Refuses Known r → Refuses Known (addLine f r)
 add-refuses f {r = accepted line} h = refuses-accepted
@@ -139,8 +141,7 @@ as-refuses Skipped f l = refuses-accepted
 as-refuses OfVersion f l = version-refuses f l
 as-refuses OfExpectation f l = expectation-refuses f l
 as-refuses OfDeclarations f l = declarations-refuse f l
-as-refuses OfConstraint f l = add-refuses f (constraint-refuses f l)
-as-refuses OfPredicate f l = add-refuses f (predicate-refuses f l)
+as-refuses (OfStatement form) f l = add-refuses f (statement-refuses form f l)
 as-refuses OfNoKind f l = refuses-refused refl
 
 line-refuses : (f : File) (l : TextLine) → Refuses Known (readLine f l)

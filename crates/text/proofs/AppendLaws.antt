@@ -1,7 +1,7 @@
 -- Texts that are put together: where the run, the line or the token in front ends. Assumes nothing.
 use Prim.Native.Nat.{ℕ, suc, _+_, _<_}
 use mathlib.Core.Path.{_≡_, refl, ap, _∙_}
-use mathlib.Core.List.{List, [], _∷_, _++_}
+use mathlib.Core.List.{List, [], _∷_, _++_, append-nil}
 use mathlib.Core.Bool.{Bool, true, not}
 use native.Mathlib.Numerals.{add-one}
 use native.Mathlib.Omega.{arith}
@@ -15,11 +15,15 @@ use Rattle.text.specs.Lines.{lineOf, linesFrom, tokenOf, tokensFrom}
 use Rattle.text.proofs.LineLaws.{lines-cons}
 use Rattle.text.proofs.TokenLaws.{tokens-cons}
 
+-- the run of a text that passes, and of what stands behind it
+pub run-through : (p : ℕ → Bool) (s t : List ℕ) → every p s ≡ true → run p (s ++ t) ≡ s ++ run p t
+unfolding every run
+run-through p [] t h = refl
+run-through p (b ∷ s) t h = let q = and-true (p b) (every p s) h in rw (q .0) (ap (λ (l : List ℕ). b ∷ l) (run-through p s t (q .1)))
+
 -- the run of a text that passes, where it does not go on in what stands behind
 pub run-front : (p : ℕ → Bool) (s t : List ℕ) → every p s ≡ true → run p t ≡ [] → run p (s ++ t) ≡ s
-unfolding every run
-run-front p [] t h e = e
-run-front p (b ∷ s) t h e = let q = and-true (p b) (every p s) h in rw (q .0) (ap (λ (l : List ℕ). b ∷ l) (run-front p s t (q .1) e))
+run-front p s t h e = run-through p s t h ∙ rw e (append-nil s)
 
 -- what stands behind one element more than a text
 drop-behind : (s t : List ℕ) (c : ℕ) → drop (suc (length s)) (s ++ c ∷ t) ≡ t

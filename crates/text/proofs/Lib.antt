@@ -8,3 +8,5 @@ pub mod ReadingLaws
 pub mod AppendLaws
 pub mod SeenLaws
 pub mod RefusesReadingLaws
+pub mod TypeLaws
+pub mod FirstByteLaws

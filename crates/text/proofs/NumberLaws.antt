@@ -9,28 +9,32 @@ use native.Mathlib.Omega.{arith}
 use lib.Dec.{eqb, leb, ltb}
 use lib.ListN.{length, getD, drop, length-drop, drop-of-length-le}
 use lib.Seq.{getD-drop, drop-cons}
-use borrow.Author.Tests.{eq-eqb, ne-eqb, le-leb, lt-leb, lt-ltb, le-ltb, leb-true, ltb-false}
+use borrow.Author.Tests.{eq-eqb, ne-eqb, lt-leb, lt-ltb, le-ltb, ltb-false}
 use Rattle.edition.specs.Edition.{isWidth}
-use Rattle.refusal.specs.Lists.{every}
-use Rattle.text.specs.Bytes.{isDigit}
+use Rattle.text.specs.Bytes.{run}
 use Rattle.text.specs.Spelling.{isNumeral, decimalFrom, decimal, leadingZero, isType}
+use Rattle.text.specs.declared.Class.the-variants.{Digit}
 use Rattle.text.specs.declared.Number.{Number}
 use Rattle.text.specs.declared.Number.the-variants.{Value, TooBig, Misspelt}
 use Rattle.text.specs.declared.TypeRead.{TypeRead}
 use Rattle.text.specs.declared.TypeRead.the-variants.{Width, NoWidth, NoType}
-use Rattle.text.specs.Scan.{numberOf, typeOf}
-use Rattle.refusal.proofs.BoolLaws.{and-true, and-false}
-use Rattle.text.proofs.RunLaws.{every-head}
+use Rattle.text.specs.Scan.{isOf, past, magnitude, numberOf, typeOf}
+use Rattle.refusal.proofs.BoolLaws.{and-false, and-one}
+use Rattle.text.proofs.RunLaws.{run-more, run-stop, run-end, run-all, scan-bounds, scan-all, scan-not}
 
--- the number that digits make, from one to the next
-module _ (f : List ℕ) (i n : ℕ) where
-  pub digits-more : i < length f → decimalFrom n (drop i f) ≡ decimalFrom (n * 10 + (getD f i 0 - 48)) (drop (i + 1) f)
+-- the number that a run of digits makes behind the number n, from one place to the next
+module _ (p : ℕ → Bool) (f : List ℕ) (i n : ℕ) where
+  pub digits-more : i < length f → p (getD f i 0) ≡ true → decimalFrom n (run p (drop i f)) ≡ decimalFrom (n * 10 + (getD f i 0 - 48)) (run p (drop (i + 1) f))
   unfolding decimalFrom
-  digits-more h = rw (add-one, drop-cons f i 0 h, decimalFrom)
+  digits-more h e = rw (run-more p f i h e, decimalFrom)
 
-  digits-end : length f ≤ i → decimalFrom n (drop i f) ≡ n
+  pub digits-stop : i < length f → p (getD f i 0) ≡ false → decimalFrom n (run p (drop i f)) ≡ n
   unfolding decimalFrom
-  digits-end h = rw (drop-of-length-le f h)
+  digits-stop h e = rw (run-stop p f i h e)
+
+  pub digits-end : length f ≤ i → decimalFrom n (run p (drop i f)) ≡ n
+  unfolding decimalFrom
+  digits-end h = rw (run-end p f i h)
 
 -- a number that is too big stays so
 digits-grow : (s : List ℕ) (n m : ℕ) → m ≤ n → m ≤ decimalFrom n s
@@ -38,44 +42,28 @@ unfolding decimalFrom
 digits-grow [] n m k = k
 digits-grow (b ∷ s) n m k = digits-grow s (n * 10 + (b - 48)) m (omega arith)
 
--- of digits, the next is one, and so are those behind it
-pub digit-here : (f : List ℕ) (i : ℕ) → i < length f → every isDigit (drop i f) ≡ true → (48 ≤ getD f i 0) × (getD f i 0 ≤ 57) × (every isDigit (drop (i + 1) f) ≡ true)
-unfolding isDigit
-digit-here f i h e =
-    let p = every-head isDigit f i h e in
-    let b = and-true (leb 48 (getD f i 0)) (leb (getD f i 0) 57) (p .0) in
-    (leb-true _ _ (b .0), leb-true _ _ (b .1), p .1)
+-- what digits make: n, or more than a word holds once n is
+module _ (s : List ℕ) (n : ℕ) where
+  pub digits-good : n < 2 ^ 64 → n ≡ decimal s → Value n ≡ magnitude s
+  digits-good h e = rw (sym e, lt-ltb n (2 ^ 64) h)
 
--- the number from `at` on, by its cases
-module _ (most : ℕ) (f : List ℕ) (at : ℕ) where
-  pub number-empty : length f - at ≡ 0 → numberOf most (drop at f) ≡ Misspelt
-  unfolding numberOf isNumeral
-  number-empty h = rw (length-drop at f, h)
+  pub digits-big : 2 ^ 64 ≤ n → (t : List ℕ) → decimalFrom n t ≡ decimal s → TooBig ≡ magnitude s
+  digits-big h t e =
+      let big : 2 ^ 64 ≤ decimal s = omega (arith, e, digits-grow t n (2 ^ 64) h) in
+      rw (le-ltb (decimal s) (2 ^ 64) big)
 
-  pub number-long : most < length f - at → numberOf most (drop at f) ≡ Misspelt
-  unfolding numberOf isNumeral
-  number-long h = rw (length-drop at f, lt-leb _ _ h, and-false)
+-- the number from `at` on, by where its digits stop
+module _ (most : ℕ) (f : List ℕ) (at stop : ℕ) (h : at ≤ length f) (e : stop ≡ past (isOf Digit) f at) where
+  pub number-other : stop < length f → Misspelt ≡ numberOf most (drop at f)
+  unfolding isOf numberOf isNumeral
+  number-other l = rw (scan-not (isOf Digit) f at stop h e l, and-false)
 
-  pub number-other : every isDigit (drop at f) ≡ false → numberOf most (drop at f) ≡ Misspelt
-  unfolding numberOf isNumeral
-  number-other h = rw (h, and-false)
-
-  -- n is the number that the digits before i make
-  module _ (h : 1 ≤ length f - at) (k : length f - at ≤ most) (e : every isDigit (drop at f) ≡ true) (i n : ℕ) (left : decimalFrom n (drop i f) ≡ decimal (drop at f)) where
-    numeral : isNumeral most (drop at f) ≡ true
-    unfolding isNumeral
-    numeral = rw (length-drop at f, le-leb 1 _ h, le-leb _ most k, e)
-
-    pub number-good : length f ≤ i → n < 2 ^ 64 → numberOf most (drop at f) ≡ Value n
-    unfolding numberOf
-    number-good l b = rw (numeral, sym left ∙ digits-end f i n l, lt-ltb n (2 ^ 64) b)
-
-    pub number-big : i < length f → 2 ^ 64 ≤ n * 10 + (getD f i 0 - 48) → numberOf most (drop at f) ≡ TooBig
-    unfolding numberOf
-    number-big l b =
-        let more = sym (digits-more f i n l) ∙ left in
-        let big : 2 ^ 64 ≤ decimal (drop at f) = omega (arith, more, digits-grow (drop (i + 1) f) _ (2 ^ 64) b) in
-        rw (numeral, le-ltb (decimal (drop at f)) (2 ^ 64) big)
+  pub number-whole : length f ≤ stop → (n : Number) → n ≡ magnitude (run (isOf Digit) (drop at f)) → cond (leb 1 (stop - at) && leb (stop - at) most) n Misspelt ≡ numberOf most (drop at f)
+  unfolding isOf numberOf isNumeral
+  number-whole l n k =
+      let b = scan-bounds (isOf Digit) f at stop h e in
+      let z : stop ≡ length f = omega arith in
+      rw (k, run-all (isOf Digit) f at h (sym e ∙ z), scan-all (isOf Digit) f at stop h e z, z, length-drop at f, and-one)
 
 -- whether a zero leads
 zero-short : (s : List ℕ) → length s < 2 → leadingZero s ≡ false

@@ -1,17 +1,16 @@
 -- Runs of bytes that pass a test: where a run ends, what it is made of, and when it is the whole text. Assumes nothing.
 use Prim.Native.Nat.{ℕ, suc, _+_, _≤_, _<_}
 use mathlib.Core.Path.{_≡_, refl, ap, sym, _∙_}
-use mathlib.Core.List.{List, [], _∷_}
+use mathlib.Core.List.{List, [], _∷_, _++_}
 use mathlib.Core.Bool.{Bool, true, false, cond, _&&_}
 use native.Mathlib.Decide.{ℕ-discrete}
 use native.Mathlib.Numerals.{add-one}
 use native.Mathlib.Omega.{arith}
 use lib.Dec.{eqb, eqb·zero-suc, eqb·suc-suc}
-use lib.ListN.{length, getD, take, drop, length-take, length-drop, drop-of-length-le}
-use lib.Seq.{getD-drop, drop-cons, drop-at, take-add, length-take-le}
+use lib.ListN.{length, getD, take, drop, length-append, length-take, length-drop, drop-of-length-le}
+use lib.Seq.{getD-drop, drop-cons, drop-drop, drop-at, take-add, take-length, length-take-le}
 use borrow.Author.Tests.{eq-eqb, ne-eqb}
 use Rattle.refusal.specs.Lists.{every}
-use Rattle.refusal.proofs.BoolLaws.{and-true}
 use Rattle.refusal.proofs.ResultLaws.{never}
 use Rattle.text.specs.Bytes.{run}
 use Rattle.text.specs.Scan.{past}
@@ -51,7 +50,7 @@ every-run p (b ∷ s) = go (p b) (run p s) (every-run p s)
     go false r ih = sym (eqb·zero-suc (length s))
 
 -- the bytes of a run pass
-every-of-run : (p : ℕ → Bool) (s : List ℕ) → every p (run p s) ≡ true
+pub every-of-run : (p : ℕ → Bool) (s : List ℕ) → every p (run p s) ≡ true
 unfolding run every
 every-of-run p [] = refl
 every-of-run p (b ∷ s) = go (p b) refl (run p s) (every-of-run p s)
@@ -59,6 +58,16 @@ every-of-run p (b ∷ s) = go (p b) refl (run p s) (every-of-run p s)
     go : (t : Bool) → p b ≡ t → (r : List ℕ) → every p r ≡ true → every p (cond t (b ∷ r) []) ≡ true
     go true e r ih = rw (e, ih)
     go false e r ih = refl
+
+-- behind a run no other begins
+run-none : (p : ℕ → Bool) (s : List ℕ) → run p (drop (length (run p s)) s) ≡ []
+unfolding run
+run-none p [] = refl
+run-none p (b ∷ s) = go (p b) refl (run-none p s)
+  where
+    go : (t : Bool) → p b ≡ t → run p (drop (length (run p s)) s) ≡ [] → run p (drop (length (cond t (b ∷ run p s) [])) (b ∷ s)) ≡ []
+    go true e ih = ih
+    go false e ih = rw e
 
 -- a stricter test, within a run of the other
 module _ (p q : ℕ → Bool) (stricter : (b : ℕ) → p b ≡ true → q b ≡ true) where
@@ -73,6 +82,18 @@ module _ (p q : ℕ → Bool) (stricter : (b : ℕ) → p b ≡ true → q b ≡
       go false e true d ih = rw e
       go false e false d ih = refl
 
+  -- a run of the other begins with the run of the stricter
+  run-split : (s : List ℕ) → run q s ≡ run p s ++ run q (drop (length (run p s)) s)
+  unfolding run
+  run-split [] = refl
+  run-split (b ∷ s) = go (p b) refl (q b) refl (run-split s)
+    where
+      go : (t : Bool) → p b ≡ t → (u : Bool) → q b ≡ u → run q s ≡ run p s ++ run q (drop (length (run p s)) s) → cond u (b ∷ run q s) [] ≡ cond t (b ∷ run p s) [] ++ run q (drop (length (cond t (b ∷ run p s) [])) (b ∷ s))
+      go true e true d ih = ap (λ (l : List ℕ). b ∷ l) ih
+      go true e false d ih = never (cc (d, stricter b e))
+      go false e true d ih = rw d
+      go false e false d ih = rw d
+
   -- both runs end where a byte fails both
   run-same : (s : List ℕ) → (length (run p s) < length s → q (getD s (length (run p s)) 0) ≡ false) → length (run q s) ≡ length (run p s)
   unfolding run
@@ -85,19 +106,31 @@ module _ (p q : ℕ → Bool) (stricter : (b : ℕ) → p b ≡ true → q b ≡
       go false e true d ih h = never (cc (d, h (omega arith)))
       go false e false d ih h = refl
 
--- where the run at i ends, from one place to the next
+-- the run at i and where it ends, from one place to the next
 module _ (p : ℕ → Bool) (f : List ℕ) (i : ℕ) where
+  pub run-more : i < length f → p (getD f i 0) ≡ true → run p (drop i f) ≡ getD f i 0 ∷ run p (drop (i + 1) f)
+  unfolding run
+  run-more h e = rw (add-one, drop-cons f i 0 h, run, e)
+
+  pub run-stop : i < length f → p (getD f i 0) ≡ false → run p (drop i f) ≡ []
+  unfolding run
+  run-stop h e = rw (drop-cons f i 0 h, run, e)
+
+  pub run-end : length f ≤ i → run p (drop i f) ≡ []
+  unfolding run
+  run-end h = rw (drop-of-length-le f h)
+
   pub past-more : i < length f → p (getD f i 0) ≡ true → past p f (i + 1) ≡ past p f i
-  unfolding past run
-  past-more h e = rw (add-one, drop-cons f i 0 h, run, e) (omega arith)
+  unfolding past
+  past-more h e = rw (run-more h e) (omega arith)
 
   pub past-stop : i < length f → p (getD f i 0) ≡ false → past p f i ≡ i
-  unfolding past run
-  past-stop h e = rw (drop-cons f i 0 h, run, e) (omega arith)
+  unfolding past
+  past-stop h e = rw (run-stop h e) (omega arith)
 
   pub past-end : length f ≤ i → past p f i ≡ i
-  unfolding past run
-  past-end h = rw (drop-of-length-le f h) (omega arith)
+  unfolding past
+  past-end h = rw (run-end h) (omega arith)
 
   pub past-ge : i ≤ past p f i
   unfolding past
@@ -117,6 +150,10 @@ module _ (p : ℕ → Bool) (f : List ℕ) (i : ℕ) where
   unfolding past
   run-part h = rw drop-take (run-take p (drop i f))
 
+  -- a run that ends with the text is all of it
+  pub run-all : i ≤ length f → past p f i ≡ length f → run p (drop i f) ≡ drop i f
+  run-all h e = run-part h ∙ rw (e, take-length)
+
   -- every byte from i on passes where the run ends with the text
   pub every-past : i ≤ length f → every p (drop i f) ≡ eqb (past p f i) (length f)
   unfolding past
@@ -128,24 +165,10 @@ module _ (p : ℕ → Bool) (f : List ℕ) (i : ℕ) where
         | no e ↦ ne-eqb _ _ e ∙ sym (ne-eqb _ _ (λ (g : i + length (run p (drop i f)) ≡ length f). e (omega arith)))
       ]
 
--- every byte from i on passes: from one place to the next
-module _ (p : ℕ → Bool) (f : List ℕ) (i : ℕ) where
-  pub every-step : i < length f → every p (drop i f) ≡ (p (getD f i 0) && every p (drop (i + 1) f))
-  unfolding every
-  every-step h = rw (add-one, drop-cons f i 0 h, every)
-
-  pub every-pass : i < length f → p (getD f i 0) ≡ true → every p (drop i f) ≡ every p (drop (i + 1) f)
-  every-pass h e = every-step h ∙ rw e
-
-  pub every-fail : i < length f → p (getD f i 0) ≡ false → every p (drop i f) ≡ false
-  every-fail h e = every-step h ∙ rw e
-
-  pub every-head : i < length f → every p (drop i f) ≡ true → (p (getD f i 0) ≡ true) × (every p (drop (i + 1) f) ≡ true)
-  every-head h e = and-true _ _ (sym (every-step h) ∙ e)
-
-  pub every-end : length f ≤ i → every p (drop i f) ≡ true
-  unfolding every
-  every-end h = rw (drop-of-length-le f h)
+-- behind the end, every byte passes
+pub every-end : (p : ℕ → Bool) (f : List ℕ) (i : ℕ) → length f ≤ i → every p (drop i f) ≡ true
+unfolding every
+every-end p f i h = rw (drop-of-length-le f h)
 
 -- what a scan from `at` says that ends at m
 module _ (p : ℕ → Bool) (f : List ℕ) (at m : ℕ) (h : at ≤ length f) (hm : m ≡ past p f at) where
@@ -182,3 +205,16 @@ module _ (p q : ℕ → Bool) (stricter : (b : ℕ) → p b ≡ true → q b ≡
     | yes e ↦ never (cc (k, rw (← e) at (past-fails q f i (omega arith))))
     | no e ↦ (let w = past-le p (take (past q f i) f) i (omega (arith, length-take-le (past q f i) f (past-le q f i h), past-ge q f i)) in omega (arith, strict-within, length-take-le (past q f i) f (past-le q f i h)))
   ]
+
+  -- from where it ends, the other goes on
+  pub strict-split : run q (drop i f) ≡ run p (drop i f) ++ run q (drop m f)
+  unfolding past
+  strict-split = run-split p q stricter (drop i f) ∙ rw (drop-drop, ← hm)
+
+  pub strict-on : past q f m ≡ past q f i
+  unfolding past
+  strict-on = omega (arith, ap length strict-split, length-append (run p (drop i f)) (run q (drop m f)))
+
+  pub strict-rest : run p (run q (drop m f)) ≡ []
+  unfolding past
+  strict-rest = run-run p q stricter (drop m f) ∙ rw (hm, ← drop-drop) (run-none p (drop i f))

@@ -2,12 +2,12 @@
 use Prim.Native.Nat.{ℕ, _≤_}
 use mathlib.Core.Path.{_≡_, refl}
 use mathlib.Core.List.{List, [], _∷_}
-use mathlib.Core.Bool.{Bool, true, not}
+use mathlib.Core.Bool.{Bool, true, false, not}
 use native.Mathlib.Omega.{arith}
 use lib.Dec.{eqb, leb}
-use borrow.Author.Tests.{le-leb, leb-true, eqb-true, ne-eqb}
+use borrow.Author.Tests.{le-leb, lt-leb, leb-true, eqb-true, ne-eqb}
 use Rattle.refusal.specs.Lists.{every}
-use Rattle.refusal.proofs.BoolLaws.{and-true, either}
+use Rattle.refusal.proofs.BoolLaws.{and-false, and-true, either}
 use Rattle.text.specs.Bytes.{within, isSpace, isLineFeed, isAllowed, isDigit, isLetter, isNameByte}
 use Rattle.text.specs.Spelling.{isName}
 use Rattle.refusal.proofs.ListLaws.{every-weaken}
@@ -33,20 +33,31 @@ pub seen-in-line : (b : ℕ) → isSeen b ≡ true → not (isLineFeed b) ≡ tr
 unfolding isSeen isLineFeed
 seen-in-line b e = let q = bounds 33 126 b e in rw (ne-eqb b 10 (omega arith))
 
--- digits are seen
-digit-seen : (b : ℕ) → isDigit b ≡ true → isSeen b ≡ true
-unfolding isSeen isDigit
-digit-seen b e = let q = bounds 48 57 b e in rw (le-leb 33 b (omega arith), le-leb b 126 (omega arith))
+-- digits, and that they are seen
+pub digit-bounds : (b : ℕ) → isDigit b ≡ true → (48 ≤ b) × (b ≤ 57)
+unfolding isDigit
+digit-bounds b e = bounds 48 57 b e
+
+pub digit-seen : (b : ℕ) → isDigit b ≡ true → isSeen b ≡ true
+unfolding isSeen
+digit-seen b e = let q = digit-bounds b e in rw (le-leb 33 b (omega arith), le-leb b 126 (omega arith))
 
 pub numeral-seen : (s : List ℕ) → every isDigit s ≡ true → every isSeen s ≡ true
 numeral-seen = every-weaken isDigit isSeen digit-seen
+
+-- a letter is neither a digit nor a colon
+pub letter-other : (b : ℕ) → isLetter b ≡ true → (isDigit b ≡ false) × (eqb b 58 ≡ false)
+unfolding isLetter isDigit
+letter-other b e =
+    let h : 65 ≤ b = either _ _ (λ k. let q = bounds 97 122 b k in omega arith) (λ k. bounds 65 90 b k .0) e in
+    (rw (lt-leb b 57 (omega arith), and-false), ne-eqb b 58 (omega arith))
 
 -- a byte of a name is seen, and is not `=`
 name-byte : (b : ℕ) → isNameByte b ≡ true → (33 ≤ b) × (b ≤ 126) × (b ≡ 61 → ⊥)
 unfolding isNameByte isLetter isDigit
 name-byte b = either _ _ (either _ _ (either _ _ (λ e. let q = bounds 97 122 b e in omega arith) (λ e. let q = bounds 65 90 b e in omega arith)) (λ e. let q = bounds 48 57 b e in omega arith)) (λ e. let q = eqb-true b 95 e in omega arith)
 
-byte-seen : (b : ℕ) → isNameByte b ≡ true → isSeen b ≡ true
+pub byte-seen : (b : ℕ) → isNameByte b ≡ true → isSeen b ≡ true
 unfolding isSeen
 byte-seen b e = let q = name-byte b e in rw (le-leb 33 b (q .0), le-leb b 126 (q .1))
 

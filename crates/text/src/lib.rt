@@ -33,8 +33,20 @@ pub enum Number {
     Misspelt,
 }
 
+// The number that digits make, and where they stop.
+pub struct Digits {
+    pub number: Number,
+    pub stop: usize,
+}
+
 pub enum TypeRead {
     Width(u64),
     NoWidth,
     NoType,
+}
+
+// A type, and where its token stops.
+pub struct TypeFound {
+    pub kind: TypeRead,
+    pub stop: usize,
 }

@@ -1,45 +1,93 @@
 // Decimal numbers and types.
 use super::Class;
+use super::Digits;
 use super::Number;
+use super::TypeFound;
 use super::TypeRead;
-use super::scan::all;
+use super::scan::is_digit;
+use super::scan::scan;
+use super::scan::token_ends;
 use edition::Edition;
 ghost use mathlib.Core.Path.{_≡_};
+ghost use mathlib.Core.Bool.{cond, _&&_};
 ghost use Prim.Native.Nat.{_+_, _≤_};
+ghost use lib.Dec.{leb};
 ghost use lib.ListN.{length, drop};
+ghost use Rattle.edition.specs.Edition.{isWidth};
+ghost use Rattle.text.specs.declared.Class.the-variants.{Digit, Solid};
+ghost use Rattle.text.specs.declared.Number.the-variants.{TooBig, Misspelt};
+ghost use Rattle.text.specs.declared.TypeRead.the-variants.{Width, NoWidth};
+ghost use Rattle.text.specs.Bytes.{run};
 ghost use Rattle.text.specs.Spelling.{leadingZero};
-ghost use Rattle.text.specs.Scan.{numberOf, typeOf};
+ghost use Rattle.text.specs.Scan.{isOf, past, magnitude, numberOf, typeOf, typeBehindColon, StopsAt};
+
+// Digits whose number has passed 2^64 at `at`.
+fn too_big(text: &[u8], at: usize) -> Digits
+    requires { ⌜ at ≤ length (now text) ⌝ }
+    ensures { λ r. ⌜ (r .number ≡ TooBig) × (r .stop ≡ past (isOf Digit) (now (text .entry)) at) ⌝ }
+{
+    Digits {
+        number: Number::TooBig,
+        stop: scan(text, at, Class::Digit),
+    }
+}
+
+// The digits from `at` on; where none stand there, their number is 0.
+pub fn digits_at(text: &[u8], at: usize) -> Digits
+    requires { ⌜ at ≤ length (now text) ⌝ }
+    ensures { λ r. ⌜ (r .number ≡ magnitude (run (isOf Digit) (drop at (now (text .entry))))) × (r .stop ≡ past (isOf Digit) (now (text .entry)) at) ⌝ }
+{
+    let mut n: u64 = 0;
+    let mut i = at;
+    while i < text.len() {
+        if !is_digit(text[i]) {
+            return Digits {
+                number: Number::Value(n),
+                stop: i,
+            };
+        }
+        let d = (text[i] - b'0') as u64;
+        if u64::MAX / 10 < n {
+            return too_big(text, i);
+        }
+        let m = n * 10;
+        if u64::MAX - m < d {
+            return too_big(text, i);
+        }
+        n = m + d;
+        i += 1;
+    }
+    Digits {
+        number: Number::Value(n),
+        stop: i,
+    }
+}
+
+// The number, if it has 1 to `most` digits.
+pub fn counted(number: Number, digits: usize, most: usize) -> Number
+    ensures { λ r. ⌜ r ≡ cond (leb 1 digits && leb digits most) number Misspelt ⌝ }
+{
+    if digits == 0 {
+        return Number::Misspelt;
+    }
+    if most < digits {
+        return Number::Misspelt;
+    }
+    number
+}
 
 // The number of 1 to `most` digits from `at` to the end.
 pub fn number_at(text: &[u8], at: usize, most: usize) -> Number
     requires { ⌜ at ≤ length (now text) ⌝ }
     ensures { λ r. ⌜ r ≡ numberOf most (drop at (now (text .entry))) ⌝ }
 {
-    let len = text.len() - at;
-    if len == 0 {
+    let digits = digits_at(text, at);
+    let stop = digits.stop;
+    let number = digits.number;
+    if stop < text.len() {
         return Number::Misspelt;
     }
-    if most < len {
-        return Number::Misspelt;
-    }
-    if !all(text, at, Class::Digit) {
-        return Number::Misspelt;
-    }
-    let mut n: u64 = 0;
-    let mut i = at;
-    while i < text.len() {
-        let d = (text[i] - b'0') as u64;
-        if u64::MAX / 10 < n {
-            return Number::TooBig;
-        }
-        let m = n * 10;
-        if u64::MAX - m < d {
-            return Number::TooBig;
-        }
-        n = m + d;
-        i += 1;
-    }
-    Number::Value(n)
+    counted(number, stop - at, most)
 }
 
 // The number of 1 to `most` digits behind the byte at `at`; none where the text ends there.
@@ -105,4 +153,63 @@ pub fn type_behind(text: &[u8], at: usize) -> TypeRead
     } else {
         TypeRead::NoType
     }
+}
+
+// A width that is spelt right.
+fn width(k: u64) -> TypeRead
+    ensures { λ r. ⌜ r ≡ cond (isWidth k) (Width k) NoWidth ⌝ }
+{
+    if Edition::is_width(k) {
+        TypeRead::Width(k)
+    } else {
+        TypeRead::NoWidth
+    }
+}
+
+// The colon and the type `iK` from `at` to the end of the token; where they are not there, it is left open where the token stops.
+pub fn type_found(line: &[u8], at: usize) -> TypeFound
+    requires { ⌜ at ≤ length (now line) ⌝ }
+    ensures { λ r. ⌜ (r .kind ≡ typeBehindColon (run (isOf Solid) (drop at (now (line .entry))))) × StopsAt (past (isOf Solid) (now (line .entry)) at) (r .stop) (r .kind) ⌝ }
+{
+    let none = TypeFound {
+        kind: TypeRead::NoType,
+        stop: at,
+    };
+    if line.len() - at < 3 {
+        return none;
+    }
+    if line[at] != b':' {
+        return none;
+    }
+    let letter = at + 1;
+    if line[letter] != b'i' {
+        return none;
+    }
+    let high = at + 2;
+    if !is_digit(line[high]) {
+        return none;
+    }
+    let a = (line[high] - b'0') as u64;
+    let low = at + 3;
+    if token_ends(line, low) {
+        return TypeFound {
+            kind: width(a),
+            stop: low,
+        };
+    }
+    if !is_digit(line[low]) {
+        return none;
+    }
+    if a == 0 {
+        return none;
+    }
+    let b = (line[low] - b'0') as u64;
+    let stop = at + 4;
+    if token_ends(line, stop) {
+        return TypeFound {
+            kind: width(a * 10 + b),
+            stop,
+        };
+    }
+    none
 }

@@ -10,8 +10,8 @@ ghost use Rattle.refusal.specs.Lists.{every};
 ghost use Rattle.text.specs.Bytes.{isSpace, isDigit, isLetter, isNameByte, isAllowed};
 ghost use Rattle.text.specs.Lines.{tokensFrom, leads as leadsBy};
 ghost use Rattle.text.specs.Spelling.{isName};
-ghost use Rattle.text.specs.declared.Class.the-variants.{Allowed};
-ghost use Rattle.text.specs.Scan.{isOf, past, tokensBy, Within};
+ghost use Rattle.text.specs.declared.Class.the-variants.{Space, NameByte, Allowed};
+ghost use Rattle.text.specs.Scan.{isOf, past, endsToken, tokensBy, Within};
 
 fn is_space(b: u8) -> bool
     ensures { λ r. ⌜ r ≡ isSpace b ⌝ }
@@ -23,13 +23,13 @@ fn is_space(b: u8) -> bool
     }
 }
 
-fn is_digit(b: u8) -> bool
+pub(crate) fn is_digit(b: u8) -> bool
     ensures { λ r. ⌜ r ≡ isDigit b ⌝ }
 {
     (b'0' <= b) & (b <= b'9')
 }
 
-fn is_letter(b: u8) -> bool
+pub fn is_letter(b: u8) -> bool
     ensures { λ r. ⌜ r ≡ isLetter b ⌝ }
 {
     ((b'a' <= b) & (b <= b'z')) | ((b'A' <= b) & (b <= b'Z'))
@@ -74,6 +74,48 @@ pub fn scan(text: &[u8], at: usize, class: Class) -> usize
         }
     }
     i
+}
+
+// As `scan` does for white space, and for the bytes of a name: the test without a choice of class.
+pub fn spaces(text: &[u8], at: usize) -> usize
+    requires { ⌜ at ≤ length (now text) ⌝ }
+    ensures { λ r. ⌜ r ≡ past (isOf Space) (now (text .entry)) at ⌝ }
+{
+    let mut i = at;
+    while i < text.len() {
+        if is_space(text[i]) {
+            i += 1;
+        } else {
+            return i;
+        }
+    }
+    i
+}
+
+pub fn name_bytes(text: &[u8], at: usize) -> usize
+    requires { ⌜ at ≤ length (now text) ⌝ }
+    ensures { λ r. ⌜ r ≡ past (isOf NameByte) (now (text .entry)) at ⌝ }
+{
+    let mut i = at;
+    while i < text.len() {
+        if is_name_byte(text[i]) {
+            i += 1;
+        } else {
+            return i;
+        }
+    }
+    i
+}
+
+// Whether a token that reaches `at` ends there.
+pub fn token_ends(line: &[u8], at: usize) -> bool
+    requires { ⌜ at ≤ length (now line) ⌝ }
+    ensures { λ r. ⌜ r ≡ endsToken (drop at (now (line .entry))) ⌝ }
+{
+    if at == line.len() {
+        return true;
+    }
+    is_space(line[at])
 }
 
 // Passes over printing bytes from `at` on: most of a line, by one test each.

@@ -10,13 +10,13 @@ use Rattle.text.specs.Reading.{readAnyLine, readLines, readText}
 use Rattle.constraint.specs.File.{variableNamed, widthAt, word, target}
 use Rattle.constraint.specs.Types.{isConstant, constantRule, isPredicate, predicateRule, wellTyped}
 use Rattle.spelling.specs.Operators.{bitwise, predicates, arithmetic, shiftsAndCasts, spellings, spelt}
-use Rattle.constraint.specs.Read.{inHeader, readSingle, versionOf, readVersion, declare, declareAll, readDeclarations, readVariable, readConstant, readOperand, nextOperand, readOperands, readOperation, readConstraint, readPredicate, kindOf, readAs, readLine, readFile}
+use Rattle.constraint.specs.Read.{inHeader, readSingle, versionOf, readVersion, declare, declareAll, readDeclarations, readVariable, readConstant, readOperand, nextOperand, readOperands, readOperation, nextOutput, readStatement, kindOf, readAs, readLine, readFile}
 use Rattle.constraint.specs.Edges.{edges}
 use Rattle.constraint.proofs.claims.edges_hold.Statement.{statement}
 use Rattle.constraint.proofs.claims.edges_hold.Tie as tie
 
 returns : tie.Need-returns
-unfolding editionNumbered isWidth every firstFrom arity joins cuts typed same run isSpace isLineFeed isAllowed isDigit isLetter isNameByte lineOf linesFrom tokenOf tokensFrom leads isName isNumeral decimalFrom leadingZero isType upTo behind readAnyLine readLines readText variableNamed widthAt word target isConstant constantRule isPredicate predicateRule wellTyped bitwise predicates arithmetic shiftsAndCasts spellings spelt inHeader readSingle versionOf readVersion declare declareAll readDeclarations readVariable readConstant readOperand nextOperand readOperands readOperation readConstraint readPredicate kindOf readAs readLine readFile edges
+unfolding editionNumbered isWidth every firstFrom arity joins cuts typed same run isSpace isLineFeed isAllowed isDigit isLetter isNameByte lineOf linesFrom tokenOf tokensFrom leads isName isNumeral decimalFrom leadingZero isType upTo behind readAnyLine readLines readText variableNamed widthAt word target isConstant constantRule isPredicate predicateRule wellTyped bitwise predicates arithmetic shiftsAndCasts spellings spelt inHeader readSingle versionOf readVersion declare declareAll readDeclarations readVariable readConstant readOperand nextOperand readOperands readOperation nextOutput readStatement kindOf readAs readLine readFile edges
 returns c = record { replies = refl; reduced = refl }
 
 pub edges-hold-spec : {M : Type 1} → statement M

@@ -18,7 +18,7 @@ refusal-requires : tie.Need-refusal-requires
 refusal-requires c κs = search needs
 
 returns : tie.Need-returns
-returns c = (λ lines next. rw (c .refusal .ensures) (declarations-misplaced (fileHeld (c .before .before .before .args .file .now) (held (c .before .before .before .args .starts .now) (c .before .before .before .args .lens .now) (c .before .before .before .args .widths .now) lines) (c .before .before .before .args .p)) (take (c .before .before .before .args .stop) (c .before .before .before .args .file .now)) (c .before .before .before .args .at) next (in-header (c .before .before .before .args .file .now) (held (c .before .before .before .args .starts .now) (c .before .before .before .args .lens .now) (c .before .before .before .args .widths .now) lines) (c .before .before .before .args .p) ∙ ne-eqb (c .before .before .before .args .p .lines) 0 (c .before .if1 .taken))), c .before .before .before .pre .3, c .before .before .before .pre .4, c .before .before .before .pre .5, tt)
+returns c = (λ lines next. rw (c .refusal .ensures) (declarations-misplaced (fileHeld (c .before .before .before .args .file .now) (held (c .before .before .before .args .starts .now) (c .before .before .before .args .lens .now) (c .before .before .before .args .widths .now) lines) (c .before .before .before .args .p)) (take (c .before .before .before .args .stop) (c .before .before .before .args .file .now)) (c .before .before .before .args .at) next (in-header (c .before .before .before .args .file .now) (held (c .before .before .before .args .starts .now) (c .before .before .before .args .lens .now) (c .before .before .before .args .widths .now) lines) (c .before .before .before .args .p) ∙ ne-eqb (c .before .before .before .args .p .lines) 0 (c .before .if1 .taken))), c .before .before .before .pre .3, c .before .before .before .pre .4, c .before .before .before .pre .5, c .before .before .before .pre .6, tt)
 
 add-next : tie.Need-add-next
 add-next c = search needs
@@ -52,15 +52,15 @@ enum-known-r c = search needs
 
 returns-2 : tie.Need-returns-2
 returns-2 c =
-    (λ lines next. rw (c .refusal2 .ensures) (ap (λ (n : ℕ). refused (refusal Constraint tokenCount n)) (sym (length-take-le (c .before .before .before .before .before .before .before .args .stop) (c .before .before .before .before .before .before .before .args .file .now) (c .before .before .before .before .before .before .before .pre .1))) ∙ declarations-missing (fileHeld (c .before .before .before .before .before .before .before .args .file .now) (held (c .before .before .before .before .before .before .before .args .starts .now) (c .before .before .before .before .before .before .before .args .lens .now) (c .before .before .before .before .before .before .before .args .widths .now) lines) (c .before .before .before .before .before .before .before .args .p)) (take (c .before .before .before .before .before .before .before .args .stop) (c .before .before .before .before .before .before .before .args .file .now)) (c .before .before .before .before .before .before .before .args .at) next (in-header (c .before .before .before .before .before .before .before .args .file .now) (held (c .before .before .before .before .before .before .before .args .starts .now) (c .before .before .before .before .before .before .before .args .lens .now) (c .before .before .before .before .before .before .before .args .widths .now) lines) (c .before .before .before .before .before .before .before .args .p) ∙ eq-eqb (c .before .before .before .before .before .before .before .args .p .lines) 0 (c .before .before .before .before .before .if1 .left)) (omega (arith, length-take-le (c .before .before .before .before .before .before .before .args .stop) (c .before .before .before .before .before .before .before .args .file .now) (c .before .before .before .before .before .before .before .pre .1))) (rw (c .before .enum-told .given .1) at (c .before .before .before .next-token .ensures .0))), c .before .before .before .before .before .before .before .pre .3, c .before .before .before .before .before .before .before .pre .4, c .before .before .before .before .before .before .before .pre .5, tt)
+    (λ lines next. rw (c .refusal2 .ensures) (ap (λ (n : ℕ). refused (refusal Constraint tokenCount n)) (sym (length-take-le (c .before .before .before .before .before .before .before .args .stop) (c .before .before .before .before .before .before .before .args .file .now) (c .before .before .before .before .before .before .before .pre .1))) ∙ declarations-missing (fileHeld (c .before .before .before .before .before .before .before .args .file .now) (held (c .before .before .before .before .before .before .before .args .starts .now) (c .before .before .before .before .before .before .before .args .lens .now) (c .before .before .before .before .before .before .before .args .widths .now) lines) (c .before .before .before .before .before .before .before .args .p)) (take (c .before .before .before .before .before .before .before .args .stop) (c .before .before .before .before .before .before .before .args .file .now)) (c .before .before .before .before .before .before .before .args .at) next (in-header (c .before .before .before .before .before .before .before .args .file .now) (held (c .before .before .before .before .before .before .before .args .starts .now) (c .before .before .before .before .before .before .before .args .lens .now) (c .before .before .before .before .before .before .before .args .widths .now) lines) (c .before .before .before .before .before .before .before .args .p) ∙ eq-eqb (c .before .before .before .before .before .before .before .args .p .lines) 0 (c .before .before .before .before .before .if1 .left)) (omega (arith, length-take-le (c .before .before .before .before .before .before .before .args .stop) (c .before .before .before .before .before .before .before .args .file .now) (c .before .before .before .before .before .before .before .pre .1))) (rw (c .before .enum-told .given .1) at (c .before .before .before .next-token .ensures .0))), c .before .before .before .before .before .before .before .pre .3, c .before .before .before .before .before .before .before .pre .4, c .before .before .before .before .before .before .before .pre .5, c .before .before .before .before .before .before .before .pre .6, tt)
 
 returns-3 : tie.Need-returns-3
 returns-3 c =
-    (λ lines next. rw (c .with-variables .ensures) ((rw (c .before .before .k .given .1) at (c .before .before .before .before .declare-all .ensures .0 (fileHeld (c .before .before .before .before .before .before .before .before .before .before .before .before .before .before .args .file .now) (held (c .before .before .before .before .before .before .before .before .before .before .before .before .before .before .args .starts .now) (c .before .before .before .before .before .before .before .before .before .before .before .before .before .before .args .lens .now) (c .before .before .before .before .before .before .before .before .before .before .before .before .before .before .args .widths .now) lines) (c .before .before .before .before .before .before .before .before .before .before .before .before .before .before .args .p)) refl)) ∙ declarations-read (fileHeld (c .before .before .before .before .before .before .before .before .before .before .before .before .before .before .args .file .now) (held (c .before .before .before .before .before .before .before .before .before .before .before .before .before .before .args .starts .now) (c .before .before .before .before .before .before .before .before .before .before .before .before .before .before .args .lens .now) (c .before .before .before .before .before .before .before .before .before .before .before .before .before .before .args .widths .now) lines) (c .before .before .before .before .before .before .before .before .before .before .before .before .before .before .args .p)) (take (c .before .before .before .before .before .before .before .before .before .before .before .before .before .before .args .stop) (c .before .before .before .before .before .before .before .before .before .before .before .before .before .before .args .file .now)) (c .before .before .before .before .before .before .before .before .before .before .before .before .before .before .args .at) next (in-header (c .before .before .before .before .before .before .before .before .before .before .before .before .before .before .args .file .now) (held (c .before .before .before .before .before .before .before .before .before .before .before .before .before .before .args .starts .now) (c .before .before .before .before .before .before .before .before .before .before .before .before .before .before .args .lens .now) (c .before .before .before .before .before .before .before .before .before .before .before .before .before .before .args .widths .now) lines) (c .before .before .before .before .before .before .before .before .before .before .before .before .before .before .args .p) ∙ eq-eqb (c .before .before .before .before .before .before .before .before .before .before .before .before .before .before .args .p .lines) 0 (c .before .before .before .before .before .before .before .before .before .before .before .before .if1 .left)) _ _ (rw (c .before .before .before .before .before .before .before .before .enum-told2 .given .1) at (c .before .before .before .before .before .before .before .before .before .before .next-token .ensures .0))), c .before .before .before .before .declare-all .ensures .1, c .before .before .before .before .declare-all .ensures .2, c .before .before .before .before .declare-all .ensures .3, rw (c .with-variables .ensures) (record { variables = rw (c .before .before .k .given .1) at (c .before .before .before .before .declare-all .ensures .4); lines = c .before .before .before .before .before .before .before .before .before .before .before .before .before .before .pre .2 .lines }))
+    (λ lines next. rw (c .with-variables .ensures) ((rw (c .before .before .k .given .1) at (c .before .before .before .before .declare-all .ensures .0 (fileHeld (c .before .before .before .before .before .before .before .before .before .before .before .before .before .before .before .args .file .now) (held (c .before .before .before .before .before .before .before .before .before .before .before .before .before .before .before .args .starts .now) (c .before .before .before .before .before .before .before .before .before .before .before .before .before .before .before .args .lens .now) (c .before .before .before .before .before .before .before .before .before .before .before .before .before .before .before .args .widths .now) lines) (c .before .before .before .before .before .before .before .before .before .before .before .before .before .before .before .args .p)) refl)) ∙ declarations-read (fileHeld (c .before .before .before .before .before .before .before .before .before .before .before .before .before .before .before .args .file .now) (held (c .before .before .before .before .before .before .before .before .before .before .before .before .before .before .before .args .starts .now) (c .before .before .before .before .before .before .before .before .before .before .before .before .before .before .before .args .lens .now) (c .before .before .before .before .before .before .before .before .before .before .before .before .before .before .before .args .widths .now) lines) (c .before .before .before .before .before .before .before .before .before .before .before .before .before .before .before .args .p)) (take (c .before .before .before .before .before .before .before .before .before .before .before .before .before .before .before .args .stop) (c .before .before .before .before .before .before .before .before .before .before .before .before .before .before .before .args .file .now)) (c .before .before .before .before .before .before .before .before .before .before .before .before .before .before .before .args .at) next (in-header (c .before .before .before .before .before .before .before .before .before .before .before .before .before .before .before .args .file .now) (held (c .before .before .before .before .before .before .before .before .before .before .before .before .before .before .before .args .starts .now) (c .before .before .before .before .before .before .before .before .before .before .before .before .before .before .before .args .lens .now) (c .before .before .before .before .before .before .before .before .before .before .before .before .before .before .before .args .widths .now) lines) (c .before .before .before .before .before .before .before .before .before .before .before .before .before .before .before .args .p) ∙ eq-eqb (c .before .before .before .before .before .before .before .before .before .before .before .before .before .before .before .args .p .lines) 0 (c .before .before .before .before .before .before .before .before .before .before .before .before .before .if1 .left)) _ _ (rw (c .before .before .before .before .before .before .before .before .before .enum-told2 .given .1) at (c .before .before .before .before .before .before .before .before .before .before .before .next-token .ensures .0))), c .before .before .before .before .declare-all .ensures .1, c .before .before .before .before .declare-all .ensures .2, c .before .before .before .before .declare-all .ensures .3, c .before .before .before .before .declare-all .ensures .4, rw (c .with-variables .ensures) (record { variables = rw (c .before .before .k .given .1) at (c .before .before .before .before .declare-all .ensures .5); lines = c .before .before .before .before .before .before .before .before .before .before .before .before .before .before .before .pre .2 .lines }))
 
 returns-4 : tie.Need-returns-4
 returns-4 c =
-    (λ lines next. (rw (c .before .r .given .1) at (c .before .before .before .declare-all .ensures .0 (fileHeld (c .before .before .before .before .before .before .before .before .before .before .before .before .before .args .file .now) (held (c .before .before .before .before .before .before .before .before .before .before .before .before .before .args .starts .now) (c .before .before .before .before .before .before .before .before .before .before .before .before .before .args .lens .now) (c .before .before .before .before .before .before .before .before .before .before .before .before .before .args .widths .now) lines) (c .before .before .before .before .before .before .before .before .before .before .before .before .before .args .p)) refl)) ∙ declarations-read (fileHeld (c .before .before .before .before .before .before .before .before .before .before .before .before .before .args .file .now) (held (c .before .before .before .before .before .before .before .before .before .before .before .before .before .args .starts .now) (c .before .before .before .before .before .before .before .before .before .before .before .before .before .args .lens .now) (c .before .before .before .before .before .before .before .before .before .before .before .before .before .args .widths .now) lines) (c .before .before .before .before .before .before .before .before .before .before .before .before .before .args .p)) (take (c .before .before .before .before .before .before .before .before .before .before .before .before .before .args .stop) (c .before .before .before .before .before .before .before .before .before .before .before .before .before .args .file .now)) (c .before .before .before .before .before .before .before .before .before .before .before .before .before .args .at) next (in-header (c .before .before .before .before .before .before .before .before .before .before .before .before .before .args .file .now) (held (c .before .before .before .before .before .before .before .before .before .before .before .before .before .args .starts .now) (c .before .before .before .before .before .before .before .before .before .before .before .before .before .args .lens .now) (c .before .before .before .before .before .before .before .before .before .before .before .before .before .args .widths .now) lines) (c .before .before .before .before .before .before .before .before .before .before .before .before .before .args .p) ∙ eq-eqb (c .before .before .before .before .before .before .before .before .before .before .before .before .before .args .p .lines) 0 (c .before .before .before .before .before .before .before .before .before .before .before .if1 .left)) _ _ (rw (c .before .before .before .before .before .before .before .enum-told2 .given .1) at (c .before .before .before .before .before .before .before .before .before .next-token .ensures .0)), c .before .before .before .declare-all .ensures .1, c .before .before .before .declare-all .ensures .2, c .before .before .before .declare-all .ensures .3, tt)
+    (λ lines next. (rw (c .before .r .given .1) at (c .before .before .before .declare-all .ensures .0 (fileHeld (c .before .before .before .before .before .before .before .before .before .before .before .before .before .before .args .file .now) (held (c .before .before .before .before .before .before .before .before .before .before .before .before .before .before .args .starts .now) (c .before .before .before .before .before .before .before .before .before .before .before .before .before .before .args .lens .now) (c .before .before .before .before .before .before .before .before .before .before .before .before .before .before .args .widths .now) lines) (c .before .before .before .before .before .before .before .before .before .before .before .before .before .before .args .p)) refl)) ∙ declarations-read (fileHeld (c .before .before .before .before .before .before .before .before .before .before .before .before .before .before .args .file .now) (held (c .before .before .before .before .before .before .before .before .before .before .before .before .before .before .args .starts .now) (c .before .before .before .before .before .before .before .before .before .before .before .before .before .before .args .lens .now) (c .before .before .before .before .before .before .before .before .before .before .before .before .before .before .args .widths .now) lines) (c .before .before .before .before .before .before .before .before .before .before .before .before .before .before .args .p)) (take (c .before .before .before .before .before .before .before .before .before .before .before .before .before .before .args .stop) (c .before .before .before .before .before .before .before .before .before .before .before .before .before .before .args .file .now)) (c .before .before .before .before .before .before .before .before .before .before .before .before .before .before .args .at) next (in-header (c .before .before .before .before .before .before .before .before .before .before .before .before .before .before .args .file .now) (held (c .before .before .before .before .before .before .before .before .before .before .before .before .before .before .args .starts .now) (c .before .before .before .before .before .before .before .before .before .before .before .before .before .before .args .lens .now) (c .before .before .before .before .before .before .before .before .before .before .before .before .before .before .args .widths .now) lines) (c .before .before .before .before .before .before .before .before .before .before .before .before .before .before .args .p) ∙ eq-eqb (c .before .before .before .before .before .before .before .before .before .before .before .before .before .before .args .p .lines) 0 (c .before .before .before .before .before .before .before .before .before .before .before .before .if1 .left)) _ _ (rw (c .before .before .before .before .before .before .before .before .enum-told2 .given .1) at (c .before .before .before .before .before .before .before .before .before .before .next-token .ensures .0)), c .before .before .before .declare-all .ensures .1, c .before .before .before .declare-all .ensures .2, c .before .before .before .declare-all .ensures .3, c .before .before .before .declare-all .ensures .4, tt)
 
 pub declaration-line-spec : {M : Type 1} → statement M
 declaration-line-spec =

@@ -9,7 +9,7 @@ use lib.Seq.{length-take-le}
 use Rattle.text.specs.Lines.{tokensFrom}
 use Rattle.constraint.specs.File.{edition}
 use Rattle.constraint.specs.Answers.{tokenAt}
-use Rattle.constraint.proofs.OperandLaws.{operation-missing, operation-unknown, operation-refused, operation-read}
+use Rattle.constraint.proofs.OperandLaws.{arity-bounds, operation-missing, operation-unknown, operation-refused, operation-read}
 use borrow.Author.Needs.{needs}
 use Rattle.constraint.proofs.operations.operation.Statement.{statement}
 use Rattle.constraint.proofs.operations.operation.Tie as tie
@@ -54,7 +54,9 @@ arity-requires : tie.Need-arity-requires
 arity-requires c κs = search needs
 
 take-operands-requires : tie.Need-take-operands-requires
-take-operands-requires c κs = (within (c .before .before .before .before .before .before .before) .1, c .before .before .before .before .before .before .before .before .before .before .before .before .pre .1)
+take-operands-requires c κs =
+    let n = arity-bounds (c .before .before .op .given .0 .0) in
+    (within (c .before .before .before .before .before .before .before) .1, c .before .before .before .before .before .before .before .before .before .before .before .before .pre .1, omega (arith, c .arity .ensures, n), omega (arith, c .arity .ensures, n))
 
 enum-known-r : tie.Need-enum-known-r
 enum-known-r c = search needs
@@ -68,21 +70,21 @@ finish-requires c κs = (rw (c .before .operands .given .1) at (c .before .befor
 returns : tie.Need-returns
 returns c =
     let s = c .before .before .before .before .before .before in
-    λ f start next v h. rw (c .refusal .ensures) (operation-missing f _ _ (s .args .line .now) start next h (rw (c .before .enum-told .given .1) at (c .before .before .before .next-token .ensures .0)))
+    λ f start next v h u. rw (c .refusal .ensures) (operation-missing f _ _ (s .args .line .now) start next h (rw (c .before .enum-told .given .1) at (c .before .before .before .next-token .ensures .0)))
 
 returns-2 : tie.Need-returns-2
 returns-2 c =
-    λ f start next v h. rw (c .refusal2 .ensures) (operation-unknown f _ _ _ _ _ (tokens (c .before .before .before .before .before .before)) (rw (c .before .enum-told2 .given .1) at (c .before .before .before .operator-at .ensures (edition f))))
+    λ f start next v h u. rw (c .refusal2 .ensures) (operation-unknown f _ _ _ _ _ (tokens (c .before .before .before .before .before .before)) (rw (c .before .enum-told2 .given .1) at (c .before .before .before .operator-at .ensures (edition f))))
 
 returns-3 : tie.Need-returns-3
 returns-3 c =
     let s = c .before .before .before .before .before .before .before .before .before .before .before .before .before .before .before .before in
-    λ f start next v h. operation-refused f _ _ _ _ _ (tokens (c .before .before .before .before .before .before .before .before .before .before .before)) _ (rw (c .before .before .before .before .before .before .op .given .1) at (c .before .before .before .before .before .before .before .before .operator-at .ensures (edition f))) _ v _ (rw (c .before .r .given .1, c .before .before .before .before .arity .ensures) at (c .before .before .before .take-operands .ensures .0 (s .args .widths .now) start next h))
+    λ f start next v h u. operation-refused f _ _ _ _ _ (tokens (c .before .before .before .before .before .before .before .before .before .before .before)) _ (rw (c .before .before .before .before .before .before .op .given .1) at (c .before .before .before .before .before .before .before .before .operator-at .ensures (edition f))) _ v _ (rw (c .before .r .given .1, c .before .before .before .before .arity .ensures) at (c .before .before .before .take-operands .ensures .0 (s .args .widths .now) start next h (rw v at u)))
 
 returns-4 : tie.Need-returns-4
 returns-4 c =
     let s = c .before .before .before .before .before .before .before .before .before .before .before .before .before .before .before .before .before in
-    λ f start next v h. c .finish .ensures (s .args .file .now) (s .args .starts .now) (s .args .lens .now) ∙ operation-read f _ _ _ _ _ (tokens (c .before .before .before .before .before .before .before .before .before .before .before .before)) _ (rw (c .before .before .before .before .before .before .before .op .given .1) at (c .before .before .before .before .before .before .before .before .before .operator-at .ensures (edition f))) _ v _ _ (rw (c .before .before .operands .given .1, c .before .before .before .before .before .arity .ensures) at (c .before .before .before .before .take-operands .ensures .0 (s .args .widths .now) start next h))
+    λ f start next v h u. c .finish .ensures (s .args .file .now) (s .args .starts .now) (s .args .lens .now) ∙ operation-read f _ _ _ _ _ (tokens (c .before .before .before .before .before .before .before .before .before .before .before .before)) _ (rw (c .before .before .before .before .before .before .before .op .given .1) at (c .before .before .before .before .before .before .before .before .before .operator-at .ensures (edition f))) _ v _ _ (rw (c .before .before .operands .given .1, c .before .before .before .before .before .arity .ensures) at (c .before .before .before .before .take-operands .ensures .0 (s .args .widths .now) start next h (rw v at u)))
 
 pub operation-spec : {M : Type 1} → statement M
 operation-spec =

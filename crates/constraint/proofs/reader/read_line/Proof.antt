@@ -1,22 +1,47 @@
-use mathlib.Core.Path.{refl, sym, ap, _∙_}
+-- `read_line` meets its contract: a line is read by its kind.
+use Prim.Native.Nat.{ℕ, _<_}
+use mathlib.Core.Path.{_≡_, refl, sym, ap, _∙_}
+use mathlib.Core.List.{List}
 use native.Mathlib.Omega.{arith}
-use lib.ListN.{take}
+use lib.ListN.{length, take}
 use lib.Seq.{length-take-le}
-use Rattle.constraint.specs.declared.Kind.the-variants.{Skipped, OfVersion, OfExpectation, OfDeclarations, OfConstraint, OfPredicate, OfNoKind}
+use Rattle.text.specs.Lines.{TextLine}
+use Rattle.constraint.specs.declared.Kind.the-variants.{Skipped, OfVersion, OfExpectation, OfDeclarations, OfStatement, OfNoKind}
+use Rattle.constraint.specs.File.{File}
 use Rattle.constraint.specs.Read.{addLine, readAs}
-use Rattle.constraint.specs.Answers.{lineAt, held, fileHeld}
+use Rattle.constraint.specs.Answers.{lineAt, Held, held, fileHeld}
 use Rattle.constraint.proofs.TableLaws.{lines-length}
-use Rattle.constraint.proofs.OperationLaws.{constraint-fits, predicate-fits}
+use Rattle.constraint.proofs.OperationLaws.{statement-fits}
 use Rattle.constraint.proofs.ReaderLaws.{of-kind, has-room}
 use borrow.Author.Needs.{needs}
 use Rattle.constraint.proofs.reader.read_line.Statement.{statement}
 use Rattle.constraint.proofs.reader.read_line.Tie as tie
 
+-- the tables and the file as they are held, and the line
+abbrev tables : tie.Start → Held
+tables s = held (s .args .starts .now) (s .args .lens .now) (s .args .widths .now) (s .args .lines .now)
+
+abbrev before : tie.Start → File
+before s = fileHeld (s .args .file .now) (tables s) (s .args .p)
+
+abbrev text : tie.Start → List ℕ
+text s = take (s .args .stop) (s .args .file .now)
+
+abbrev line : tie.Start → ℕ → TextLine
+line s next = lineAt (text s) (s .args .at) next
+
+-- the line has a byte
+long : (s : tie.Start) → length (text s) ≡ s .args .stop
+long s = length-take-le (s .args .stop) (s .args .file .now) (s .pre .1)
+
+starts-in : (s : tie.Start) → s .args .at < length (text s)
+starts-in s = omega (arith, long s, s .pre .0)
+
 slice-aggregate-kind-of : tie.Need-slice-aggregate-kind-of
-slice-aggregate-kind-of c = sym (length-take-le (c .before .before .args .stop) (c .before .before .args .file .now) (c .before .before .pre .1))
+slice-aggregate-kind-of c = sym (long (c .before .before))
 
 kind-of-requires : tie.Need-kind-of-requires
-kind-of-requires c κs = omega (arith, length-take-le (c .before .before .args .stop) (c .before .before .args .file .now) (c .before .before .pre .1))
+kind-of-requires c κs = starts-in (c .before .before)
 
 enum-told : tie.Need-enum-told
 enum-told c = search needs
@@ -25,19 +50,19 @@ enum-told-2 : tie.Need-enum-told-2
 enum-told-2 c = search needs
 
 slice-aggregate-version-line : tie.Need-slice-aggregate-version-line
-slice-aggregate-version-line c = sym (length-take-le (c .before .before .before .before .before .before .args .stop) (c .before .before .before .before .before .before .args .file .now) (c .before .before .before .before .before .before .pre .1))
+slice-aggregate-version-line c = sym (long (c .before .before .before .before .before .before))
 
 version-line-requires : tie.Need-version-line-requires
-version-line-requires c κs = omega (arith, length-take-le (c .before .before .before .before .before .before .args .stop) (c .before .before .before .before .before .before .args .file .now) (c .before .before .before .before .before .before .pre .1))
+version-line-requires c κs = starts-in (c .before .before .before .before .before .before)
 
 enum-told-3 : tie.Need-enum-told-3
 enum-told-3 c = search needs
 
 slice-aggregate-expectation-line : tie.Need-slice-aggregate-expectation-line
-slice-aggregate-expectation-line c = sym (length-take-le (c .before .before .before .before .before .before .args .stop) (c .before .before .before .before .before .before .args .file .now) (c .before .before .before .before .before .before .pre .1))
+slice-aggregate-expectation-line c = sym (long (c .before .before .before .before .before .before))
 
 expectation-line-requires : tie.Need-expectation-line-requires
-expectation-line-requires c κs = omega (arith, length-take-le (c .before .before .before .before .before .before .args .stop) (c .before .before .before .before .before .before .args .file .now) (c .before .before .before .before .before .before .pre .1))
+expectation-line-requires c κs = starts-in (c .before .before .before .before .before .before)
 
 enum-told-4 : tie.Need-enum-told-4
 enum-told-4 c = search needs
@@ -45,63 +70,66 @@ enum-told-4 c = search needs
 declaration-line-requires : tie.Need-declaration-line-requires
 declaration-line-requires c κs = search needs
 
-enum-told-5 : tie.Need-enum-told-5
-enum-told-5 c = search needs
+enum-known-form : tie.Need-enum-known-form
+enum-known-form c = search needs
 
-slice-aggregate-constraint-line : tie.Need-slice-aggregate-constraint-line
-slice-aggregate-constraint-line c = sym (length-take-le (c .before .before .before .before .before .before .before .before .before .args .stop) (c .before .before .before .before .before .before .before .before .before .args .file .now) (c .before .before .before .before .before .before .before .before .before .pre .1))
+slice-aggregate-statement-line : tie.Need-slice-aggregate-statement-line
+slice-aggregate-statement-line c = sym (long (c .before .before .before .before .before .before .before .before .before .before .before))
 
-constraint-line-requires : tie.Need-constraint-line-requires
-constraint-line-requires c κs = (omega (arith, length-take-le (c .before .before .before .before .before .before .before .before .before .args .stop) (c .before .before .before .before .before .before .before .before .before .args .file .now) (c .before .before .before .before .before .before .before .before .before .pre .1)), c .before .before .before .before .before .before .before .before .before .pre .2 .variables)
+statement-line-requires : tie.Need-statement-line-requires
+statement-line-requires c κs =
+    let s = c .before .before .before .before .before .before .before .before .before .before .before in
+    (starts-in s, s .pre .2 .variables)
 
 add-line-requires : tie.Need-add-line-requires
-add-line-requires c κs = (c .before .before .before .before .before .before .before .before .before .before .before .pre .3 .lines, c .before .before .before .before .before .before .before .before .before .before .before .pre .2, has-room (c .before .before .before .before .before .before .before .before .before .before .before .args .lines .now) (c .before .before .before .before .before .before .before .before .before .before .before .args .p) (c .before .constraint-line .result) (c .before .constraint-line .ensures (fileHeld (c .before .before .before .before .before .before .before .before .before .before .before .args .file .now) (held (c .before .before .before .before .before .before .before .before .before .before .before .args .starts .now) (c .before .before .before .before .before .before .before .before .before .before .before .args .lens .now) (c .before .before .before .before .before .before .before .before .before .before .before .args .widths .now) (c .before .before .before .before .before .before .before .before .before .before .before .args .lines .now)) (c .before .before .before .before .before .before .before .before .before .before .before .args .p)) 0 refl (lines-length (c .before .before .before .before .before .before .before .before .before .before .before .args .lines .now) (c .before .before .before .before .before .before .before .before .before .before .before .args .p .lines))) (constraint-fits (fileHeld (c .before .before .before .before .before .before .before .before .before .before .before .args .file .now) (held (c .before .before .before .before .before .before .before .before .before .before .before .args .starts .now) (c .before .before .before .before .before .before .before .before .before .before .before .args .lens .now) (c .before .before .before .before .before .before .before .before .before .before .before .args .widths .now) (c .before .before .before .before .before .before .before .before .before .before .before .args .lines .now)) (c .before .before .before .before .before .before .before .before .before .before .before .args .p)) (lineAt (take (c .before .before .before .before .before .before .before .before .before .before .before .args .stop) (c .before .before .before .before .before .before .before .before .before .before .before .args .file .now)) (c .before .before .before .before .before .before .before .before .before .before .before .args .at) 0)))
+add-line-requires c κs =
+    let s = c .before .before .before .before .before .before .before .before .before .before .before .before .before in
+    let form = c .before .before .before .before .before .before .before .before .form .given .0 .0 in
+    (s .pre .3 .lines, s .pre .2, has-room (s .args .lines .now) (s .args .p) (c .before .statement-line .result) (c .before .statement-line .ensures (before s) 0 refl (lines-length (s .args .lines .now) (s .args .p .lines)) (s .pre .5)) (statement-fits (before s) (line s 0) form))
 
-enum-told-6 : tie.Need-enum-told-6
-enum-told-6 c = search needs
-
-slice-aggregate-predicate-line : tie.Need-slice-aggregate-predicate-line
-slice-aggregate-predicate-line c = sym (length-take-le (c .before .before .before .before .before .before .before .before .before .args .stop) (c .before .before .before .before .before .before .before .before .before .args .file .now) (c .before .before .before .before .before .before .before .before .before .pre .1))
-
-predicate-line-requires : tie.Need-predicate-line-requires
-predicate-line-requires c κs = (omega (arith, length-take-le (c .before .before .before .before .before .before .before .before .before .args .stop) (c .before .before .before .before .before .before .before .before .before .args .file .now) (c .before .before .before .before .before .before .before .before .before .pre .1)), c .before .before .before .before .before .before .before .before .before .pre .2 .variables)
-
-add-line-requires-2 : tie.Need-add-line-requires-2
-add-line-requires-2 c κs = (c .before .before .before .before .before .before .before .before .before .before .before .pre .3 .lines, c .before .before .before .before .before .before .before .before .before .before .before .pre .2, has-room (c .before .before .before .before .before .before .before .before .before .before .before .args .lines .now) (c .before .before .before .before .before .before .before .before .before .before .before .args .p) (c .before .predicate-line .result) (c .before .predicate-line .ensures (fileHeld (c .before .before .before .before .before .before .before .before .before .before .before .args .file .now) (held (c .before .before .before .before .before .before .before .before .before .before .before .args .starts .now) (c .before .before .before .before .before .before .before .before .before .before .before .args .lens .now) (c .before .before .before .before .before .before .before .before .before .before .before .args .widths .now) (c .before .before .before .before .before .before .before .before .before .before .before .args .lines .now)) (c .before .before .before .before .before .before .before .before .before .before .before .args .p)) 0 refl (lines-length (c .before .before .before .before .before .before .before .before .before .before .before .args .lines .now) (c .before .before .before .before .before .before .before .before .before .before .before .args .p .lines))) (predicate-fits (fileHeld (c .before .before .before .before .before .before .before .before .before .before .before .args .file .now) (held (c .before .before .before .before .before .before .before .before .before .before .before .args .starts .now) (c .before .before .before .before .before .before .before .before .before .before .before .args .lens .now) (c .before .before .before .before .before .before .before .before .before .before .before .args .widths .now) (c .before .before .before .before .before .before .before .before .before .before .before .args .lines .now)) (c .before .before .before .before .before .before .before .before .before .before .before .args .p)) (lineAt (take (c .before .before .before .before .before .before .before .before .before .before .before .args .stop) (c .before .before .before .before .before .before .before .before .before .before .before .args .file .now)) (c .before .before .before .before .before .before .before .before .before .before .before .args .at) 0)))
-
-enum-told-7 : tie.Need-enum-told-7
-enum-told-7 c = search needs
+enum-told-5 : tie.Need-enum-told-5
+enum-told-5 c = search needs
 
 refusal-requires : tie.Need-refusal-requires
 refusal-requires c κs = search needs
 
 returns : tie.Need-returns
 unfolding readAs
-returns c = (λ next. of-kind Skipped (fileHeld (c .before .before .before .before .before .args .file .now) (held (c .before .before .before .before .before .args .starts .now) (c .before .before .before .before .before .args .lens .now) (c .before .before .before .before .before .args .widths .now) (c .before .before .before .before .before .args .lines .now)) (c .before .before .before .before .before .args .p)) (lineAt (take (c .before .before .before .before .before .args .stop) (c .before .before .before .before .before .args .file .now)) (c .before .before .before .before .before .args .at) next) (c .before .before .kind-of .ensures) (c .enum-told .given .1), c .before .before .before .before .before .pre .3, c .before .before .before .before .before .pre .2)
+returns c =
+    let s = c .before .before .before .before .before in
+    (λ next. of-kind Skipped (before s) (line s next) (c .before .before .kind-of .ensures) (c .enum-told .given .1), s .pre .3, s .pre .4, s .pre .2)
 
 returns-2 : tie.Need-returns-2
 unfolding readAs
-returns-2 c = (λ next. c .version-line .ensures .0 (c .before .before .before .before .before .before .before .args .file .now) (held (c .before .before .before .before .before .before .before .args .starts .now) (c .before .before .before .before .before .before .before .args .lens .now) (c .before .before .before .before .before .before .before .args .widths .now) (c .before .before .before .before .before .before .before .args .lines .now)) next ∙ of-kind OfVersion (fileHeld (c .before .before .before .before .before .before .before .args .file .now) (held (c .before .before .before .before .before .before .before .args .starts .now) (c .before .before .before .before .before .before .before .args .lens .now) (c .before .before .before .before .before .before .before .args .widths .now) (c .before .before .before .before .before .before .before .args .lines .now)) (c .before .before .before .before .before .before .before .args .p)) (lineAt (take (c .before .before .before .before .before .before .before .args .stop) (c .before .before .before .before .before .before .before .args .file .now)) (c .before .before .before .before .before .before .before .args .at) next) (c .before .before .before .before .kind-of .ensures) (c .before .before .enum-told2 .given .1), c .before .before .before .before .before .before .before .pre .3, c .version-line .ensures .1 (c .before .before .before .before .before .before .before .pre .2))
+returns-2 c =
+    let s = c .before .before .before .before .before .before .before in
+    (λ next. c .version-line .ensures .0 (s .args .file .now) (tables s) next ∙ of-kind OfVersion (before s) (line s next) (c .before .before .before .before .kind-of .ensures) (c .before .before .enum-told2 .given .1), s .pre .3, s .pre .4, c .version-line .ensures .1 (s .pre .2))
 
 returns-3 : tie.Need-returns-3
 unfolding readAs
-returns-3 c = (λ next. c .expectation-line .ensures .0 (c .before .before .before .before .before .before .before .args .file .now) (held (c .before .before .before .before .before .before .before .args .starts .now) (c .before .before .before .before .before .before .before .args .lens .now) (c .before .before .before .before .before .before .before .args .widths .now) (c .before .before .before .before .before .before .before .args .lines .now)) next ∙ of-kind OfExpectation (fileHeld (c .before .before .before .before .before .before .before .args .file .now) (held (c .before .before .before .before .before .before .before .args .starts .now) (c .before .before .before .before .before .before .before .args .lens .now) (c .before .before .before .before .before .before .before .args .widths .now) (c .before .before .before .before .before .before .before .args .lines .now)) (c .before .before .before .before .before .before .before .args .p)) (lineAt (take (c .before .before .before .before .before .before .before .args .stop) (c .before .before .before .before .before .before .before .args .file .now)) (c .before .before .before .before .before .before .before .args .at) next) (c .before .before .before .before .kind-of .ensures) (c .before .before .enum-told3 .given .1), c .before .before .before .before .before .before .before .pre .3, c .expectation-line .ensures .1 (c .before .before .before .before .before .before .before .pre .2))
+returns-3 c =
+    let s = c .before .before .before .before .before .before .before in
+    (λ next. c .expectation-line .ensures .0 (s .args .file .now) (tables s) next ∙ of-kind OfExpectation (before s) (line s next) (c .before .before .before .before .kind-of .ensures) (c .before .before .enum-told3 .given .1), s .pre .3, s .pre .4, c .expectation-line .ensures .1 (s .pre .2))
 
 returns-4 : tie.Need-returns-4
 unfolding readAs
-returns-4 c = (λ next. c .declaration-line .ensures .0 (c .before .before .before .before .before .before .before .before .before .args .lines .now) next ∙ of-kind OfDeclarations (fileHeld (c .before .before .before .before .before .before .before .before .before .args .file .now) (held (c .before .before .before .before .before .before .before .before .before .args .starts .now) (c .before .before .before .before .before .before .before .before .before .args .lens .now) (c .before .before .before .before .before .before .before .before .before .args .widths .now) (c .before .before .before .before .before .before .before .before .before .args .lines .now)) (c .before .before .before .before .before .before .before .before .before .args .p)) (lineAt (take (c .before .before .before .before .before .before .before .before .before .args .stop) (c .before .before .before .before .before .before .before .before .before .args .file .now)) (c .before .before .before .before .before .before .before .before .before .args .at) next) (c .before .before .before .before .before .before .kind-of .ensures) (c .before .before .before .before .enum-told4 .given .1), record { starts = c .declaration-line .ensures .1; lens = c .declaration-line .ensures .2; widths = c .declaration-line .ensures .3; lines = c .before .before .before .before .before .before .before .before .before .pre .3 .lines }, c .declaration-line .ensures .4)
+returns-4 c =
+    let s = c .before .before .before .before .before .before .before .before .before .before in
+    let r = c .declaration-line .ensures in
+    (λ next. r .0 (s .args .lines .now) next ∙ of-kind OfDeclarations (before s) (line s next) (c .before .before .before .before .before .before .before .kind-of .ensures) (c .before .before .before .before .before .enum-told4 .given .1), record { starts = r .1; lens = r .2; widths = r .4; lines = s .pre .3 .lines }, r .3, r .5)
 
 returns-5 : tie.Need-returns-5
 unfolding readAs
-returns-5 c = (λ next. c .add-line .ensures .0 (c .before .before .before .before .before .before .before .before .before .before .before .before .args .file .now) (c .before .before .before .before .before .before .before .before .before .before .before .before .args .starts .now) (c .before .before .before .before .before .before .before .before .before .before .before .before .args .lens .now) (c .before .before .before .before .before .before .before .before .before .before .before .before .args .widths .now) ∙ ap (addLine (fileHeld (c .before .before .before .before .before .before .before .before .before .before .before .before .args .file .now) (held (c .before .before .before .before .before .before .before .before .before .before .before .before .args .starts .now) (c .before .before .before .before .before .before .before .before .before .before .before .before .args .lens .now) (c .before .before .before .before .before .before .before .before .before .before .before .before .args .widths .now) (c .before .before .before .before .before .before .before .before .before .before .before .before .args .lines .now)) (c .before .before .before .before .before .before .before .before .before .before .before .before .args .p))) (c .before .before .constraint-line .ensures (fileHeld (c .before .before .before .before .before .before .before .before .before .before .before .before .args .file .now) (held (c .before .before .before .before .before .before .before .before .before .before .before .before .args .starts .now) (c .before .before .before .before .before .before .before .before .before .before .before .before .args .lens .now) (c .before .before .before .before .before .before .before .before .before .before .before .before .args .widths .now) (c .before .before .before .before .before .before .before .before .before .before .before .before .args .lines .now)) (c .before .before .before .before .before .before .before .before .before .before .before .before .args .p)) next refl (lines-length (c .before .before .before .before .before .before .before .before .before .before .before .before .args .lines .now) (c .before .before .before .before .before .before .before .before .before .before .before .before .args .p .lines))) ∙ of-kind OfConstraint (fileHeld (c .before .before .before .before .before .before .before .before .before .before .before .before .args .file .now) (held (c .before .before .before .before .before .before .before .before .before .before .before .before .args .starts .now) (c .before .before .before .before .before .before .before .before .before .before .before .before .args .lens .now) (c .before .before .before .before .before .before .before .before .before .before .before .before .args .widths .now) (c .before .before .before .before .before .before .before .before .before .before .before .before .args .lines .now)) (c .before .before .before .before .before .before .before .before .before .before .before .before .args .p)) (lineAt (take (c .before .before .before .before .before .before .before .before .before .before .before .before .args .stop) (c .before .before .before .before .before .before .before .before .before .before .before .before .args .file .now)) (c .before .before .before .before .before .before .before .before .before .before .before .before .args .at) next) (c .before .before .before .before .before .before .before .before .before .kind-of .ensures) (c .before .before .before .before .before .before .before .enum-told5 .given .1), record { starts = c .before .before .before .before .before .before .before .before .before .before .before .before .pre .3 .starts; lens = c .before .before .before .before .before .before .before .before .before .before .before .before .pre .3 .lens; widths = c .before .before .before .before .before .before .before .before .before .before .before .before .pre .3 .widths; lines = c .add-line .ensures .1 }, c .add-line .ensures .2)
+returns-5 c =
+    let s = c .before .before .before .before .before .before .before .before .before .before .before .before .before .before in
+    let form = c .before .before .before .before .before .before .before .before .before .form .given .0 .0 in
+    (λ next. c .add-line .ensures .0 (s .args .file .now) (s .args .starts .now) (s .args .lens .now) (s .args .widths .now) ∙ ap (addLine (before s)) (c .before .before .statement-line .ensures (before s) next refl (lines-length (s .args .lines .now) (s .args .p .lines)) (s .pre .5)) ∙ of-kind (OfStatement form) (before s) (line s next) (c .before .before .before .before .before .before .before .before .before .before .before .kind-of .ensures) (c .before .before .before .before .before .before .before .before .before .form .given .1), record { starts = s .pre .3 .starts; lens = s .pre .3 .lens; widths = s .pre .3 .widths; lines = c .add-line .ensures .1 }, s .pre .4, c .add-line .ensures .2)
 
 returns-6 : tie.Need-returns-6
 unfolding readAs
-returns-6 c = (λ next. c .add-line2 .ensures .0 (c .before .before .before .before .before .before .before .before .before .before .before .before .args .file .now) (c .before .before .before .before .before .before .before .before .before .before .before .before .args .starts .now) (c .before .before .before .before .before .before .before .before .before .before .before .before .args .lens .now) (c .before .before .before .before .before .before .before .before .before .before .before .before .args .widths .now) ∙ ap (addLine (fileHeld (c .before .before .before .before .before .before .before .before .before .before .before .before .args .file .now) (held (c .before .before .before .before .before .before .before .before .before .before .before .before .args .starts .now) (c .before .before .before .before .before .before .before .before .before .before .before .before .args .lens .now) (c .before .before .before .before .before .before .before .before .before .before .before .before .args .widths .now) (c .before .before .before .before .before .before .before .before .before .before .before .before .args .lines .now)) (c .before .before .before .before .before .before .before .before .before .before .before .before .args .p))) (c .before .before .predicate-line .ensures (fileHeld (c .before .before .before .before .before .before .before .before .before .before .before .before .args .file .now) (held (c .before .before .before .before .before .before .before .before .before .before .before .before .args .starts .now) (c .before .before .before .before .before .before .before .before .before .before .before .before .args .lens .now) (c .before .before .before .before .before .before .before .before .before .before .before .before .args .widths .now) (c .before .before .before .before .before .before .before .before .before .before .before .before .args .lines .now)) (c .before .before .before .before .before .before .before .before .before .before .before .before .args .p)) next refl (lines-length (c .before .before .before .before .before .before .before .before .before .before .before .before .args .lines .now) (c .before .before .before .before .before .before .before .before .before .before .before .before .args .p .lines))) ∙ of-kind OfPredicate (fileHeld (c .before .before .before .before .before .before .before .before .before .before .before .before .args .file .now) (held (c .before .before .before .before .before .before .before .before .before .before .before .before .args .starts .now) (c .before .before .before .before .before .before .before .before .before .before .before .before .args .lens .now) (c .before .before .before .before .before .before .before .before .before .before .before .before .args .widths .now) (c .before .before .before .before .before .before .before .before .before .before .before .before .args .lines .now)) (c .before .before .before .before .before .before .before .before .before .before .before .before .args .p)) (lineAt (take (c .before .before .before .before .before .before .before .before .before .before .before .before .args .stop) (c .before .before .before .before .before .before .before .before .before .before .before .before .args .file .now)) (c .before .before .before .before .before .before .before .before .before .before .before .before .args .at) next) (c .before .before .before .before .before .before .before .before .before .kind-of .ensures) (c .before .before .before .before .before .before .before .enum-told6 .given .1), record { starts = c .before .before .before .before .before .before .before .before .before .before .before .before .pre .3 .starts; lens = c .before .before .before .before .before .before .before .before .before .before .before .before .pre .3 .lens; widths = c .before .before .before .before .before .before .before .before .before .before .before .before .pre .3 .widths; lines = c .add-line2 .ensures .1 }, c .add-line2 .ensures .2)
-
-returns-7 : tie.Need-returns-7
-unfolding readAs
-returns-7 c = (λ next. rw (c .refusal .ensures) (of-kind OfNoKind (fileHeld (c .before .before .before .before .before .before .args .file .now) (held (c .before .before .before .before .before .before .args .starts .now) (c .before .before .before .before .before .before .args .lens .now) (c .before .before .before .before .before .before .args .widths .now) (c .before .before .before .before .before .before .args .lines .now)) (c .before .before .before .before .before .before .args .p)) (lineAt (take (c .before .before .before .before .before .before .args .stop) (c .before .before .before .before .before .before .args .file .now)) (c .before .before .before .before .before .before .args .at) next) (c .before .before .before .kind-of .ensures) (c .before .enum-told7 .given .1)), c .before .before .before .before .before .before .pre .3, tt)
+returns-6 c =
+    let s = c .before .before .before .before .before .before in
+    (λ next. rw (c .refusal .ensures) (of-kind OfNoKind (before s) (line s next) (c .before .before .before .kind-of .ensures) (c .before .enum-told5 .given .1)), s .pre .3, s .pre .4, tt)
 
 pub read-line-spec : {M : Type 1} → statement M
 read-line-spec =
@@ -118,20 +146,15 @@ read-line-spec =
     expectation-line-requires
     enum-told-4
     declaration-line-requires
-    enum-told-5
-    slice-aggregate-constraint-line
-    constraint-line-requires
+    enum-known-form
+    slice-aggregate-statement-line
+    statement-line-requires
     add-line-requires
-    enum-told-6
-    slice-aggregate-predicate-line
-    predicate-line-requires
-    add-line-requires-2
-    enum-told-7
+    enum-told-5
     refusal-requires
     returns
     returns-2
     returns-3
     returns-4
     returns-5
-    returns-6
-    returns-7)
+    returns-6)

@@ -1,0 +1,82 @@
+-- A token by its first byte: with a letter it is a name or misspelt, without one it is no name. Assumes nothing.
+use Prim.Native.Nat.{ℕ, _+_, _≤_, _<_}
+use mathlib.Core.Path.{_≡_, ap, _∙_}
+use mathlib.Core.Bool.{true, false, not}
+use mathlib.Core.List.{List}
+use native.Mathlib.Decide.{decLt}
+use native.Mathlib.Omega.{arith}
+use lib.ListN.{length, getD, take, drop, drop-of-length-le}
+use lib.Seq.{drop-cons, getD-take, length-take-le}
+use Rattle.refusal.specs.Lists.{every}
+use Rattle.refusal.proofs.BoolLaws.{and-false}
+use Rattle.refusal.proofs.ResultLaws.{never}
+use Rattle.text.specs.Bytes.{isLetter, isNameByte, isSpace}
+use Rattle.text.specs.Spelling.{isName}
+use Rattle.text.specs.declared.Class.the-variants.{Solid, Digit, NameByte}
+use Rattle.text.specs.Scan.{isOf, past, endsToken}
+use Rattle.text.proofs.RunLaws.{past-more, past-ge, past-le, scan-bounds, scan-not, strict-every, strict-same, strict-within, strict-before}
+use Rattle.text.proofs.NameLaws.{name-at}
+use Rattle.text.proofs.SeenLaws.{digit-seen, byte-seen, seen-solid}
+
+-- digits and the bytes of a name are not white space
+pub digit-solid : (b : ℕ) → isOf Digit b ≡ true → isOf Solid b ≡ true
+unfolding isOf
+digit-solid b e = seen-solid b (digit-seen b e)
+
+name-solid : (b : ℕ) → isOf NameByte b ≡ true → isOf Solid b ≡ true
+unfolding isOf
+name-solid b e = seen-solid b (byte-seen b e)
+
+letter-solid : (b : ℕ) → isLetter b ≡ true → isOf Solid b ≡ true
+unfolding isNameByte isOf
+letter-solid b e = name-solid b (rw e)
+
+-- whether a token ends at i
+module _ (f : List ℕ) (i : ℕ) where
+  ends-solid : endsToken (drop i f) ≡ true → i < length f → isOf Solid (getD f i 0) ≡ false
+  unfolding endsToken isOf
+  ends-solid e h = let s : isSpace (getD f i 0) ≡ true = rw (drop-cons f i 0 h) at e in ap not s
+
+  pub goes-on : endsToken (drop i f) ≡ false → (i < length f) × (isOf Solid (getD f i 0) ≡ true)
+  unfolding endsToken isOf
+  goes-on e = elim (decLt i (length f)) [
+    | yes h ↦ (let s : isSpace (getD f i 0) ≡ false = rw (drop-cons f i 0 h) at e in (h, ap not s))
+    | no h ↦ (let k : length f ≤ i = omega arith in never (cc (rw (drop-of-length-le f k) at e)))
+  ]
+
+-- a token that starts at `at`
+module _ (line : List ℕ) (at : ℕ) (h : at < length line) where
+  pub letter-starts : isLetter (getD line at 0) ≡ true → at < past (isOf Solid) line at
+  letter-starts a = omega (arith, past-more (isOf Solid) line at h (letter-solid (getD line at 0) a), past-ge (isOf Solid) line (at + 1))
+
+  -- with a letter, before bytes of a name up to `stop`
+  module _ (a : isLetter (getD line at 0) ≡ true) (stop : ℕ) (hs : stop ≡ past (isOf NameByte) line (at + 1)) where
+    on : past (isOf Solid) line (at + 1) ≡ past (isOf Solid) line at
+    on = past-more (isOf Solid) line at h (letter-solid (getD line at 0) a)
+
+    pub name-bounds : (at < stop) × (stop ≤ length line)
+    name-bounds = let b = scan-bounds (isOf NameByte) line (at + 1) stop (omega arith) hs in (omega arith, b .1)
+
+    pub name-stops : endsToken (drop stop line) ≡ true → stop ≡ past (isOf Solid) line at
+    name-stops e = strict-same (isOf NameByte) (isOf Solid) name-solid line (at + 1) stop (omega arith) hs (ends-solid line stop e) ∙ on
+
+    pub name-whole : isName (drop at (take stop line)) ≡ true
+    unfolding isOf
+    name-whole =
+        let b = name-bounds in
+        name-at (take stop line) at (omega (arith, length-take-le stop line (b .1)))
+        ∙ rw (getD-take stop line at 0 (b .0), a) (strict-every (isOf NameByte) (isOf Solid) name-solid line (at + 1) stop (omega arith) hs)
+
+    pub name-broken : endsToken (drop stop line) ≡ false → isName (drop at (take (past (isOf Solid) line at) line)) ≡ false
+    unfolding isOf
+    name-broken e =
+        let g = goes-on line stop e in
+        let end = past (isOf Solid) line (at + 1) in
+        let l = length-take-le end line (past-le (isOf Solid) line (at + 1) (omega arith)) in
+        let lt : stop < end = strict-before (isOf NameByte) (isOf Solid) name-solid line (at + 1) stop (omega arith) hs (g .0) (g .1) in
+        let not-all : every (isOf NameByte) (drop (at + 1) (take end line)) ≡ false = scan-not (isOf NameByte) (take end line) (at + 1) stop (omega (arith, name-bounds, l)) (strict-within (isOf NameByte) (isOf Solid) name-solid line (at + 1) stop (omega arith) hs) (omega (arith, l)) in
+        rw (← on) (name-at (take end line) at (omega (arith, name-bounds, l)) ∙ rw (not-all, and-false))
+
+  -- without a letter
+  pub no-name : isLetter (getD line at 0) ≡ false → (stop : ℕ) → at < stop → stop ≤ length line → isName (drop at (take stop line)) ≡ false
+  no-name a stop k l = name-at (take stop line) at (omega (arith, length-take-le stop line l)) ∙ rw (getD-take stop line at 0 k, a)

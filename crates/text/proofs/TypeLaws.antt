@@ -1,0 +1,202 @@
+-- A type behind a colon, by the bytes that a reader meets one after another. Assumes nothing.
+use Prim.Native.Nat.{ℕ, suc, _+_, _-_, _*_, _≤_, _<_}
+use mathlib.Core.Path.{_≡_, refl, ap, sym, _∙_}
+use mathlib.Core.List.{List, [], _∷_}
+use mathlib.Core.Bool.{Bool, true, false, cond}
+use native.Mathlib.Omega.{arith}
+use lib.Dec.{eqb}
+use lib.ListN.{length, getD, drop, length-drop, length-take}
+use lib.Seq.{drop-cons}
+use borrow.Author.Tests.{ne-eqb, lt-leb}
+use Rattle.edition.specs.Edition.{isWidth}
+use Rattle.refusal.specs.Lists.{every}
+use Rattle.refusal.proofs.BoolLaws.{and-false}
+use Rattle.refusal.proofs.ResultLaws.{never}
+use Rattle.text.specs.Bytes.{run, isSpace, isDigit}
+use Rattle.text.specs.Spelling.{isNumeral, decimalFrom, leadingZero, isType}
+use Rattle.text.specs.declared.Class.the-variants.{Solid}
+use Rattle.text.specs.declared.TypeRead.{TypeRead}
+use Rattle.text.specs.declared.TypeRead.the-variants.{Width, NoWidth, NoType}
+use Rattle.text.specs.Scan.{isOf, past, endsToken, typeOf, typeBehindColon, StopsAt}
+use Rattle.text.proofs.RunLaws.{run-take}
+use Rattle.text.proofs.SeenLaws.{digit-bounds}
+use Rattle.text.proofs.FirstByteLaws.{digit-solid, goes-on}
+
+-- the token that a text starts with
+abbrev token : List ℕ → List ℕ
+token = run (isOf Solid)
+
+-- a width that is spelt right
+abbrev widthOf : ℕ → TypeRead
+widthOf k = cond (isWidth k) (Width k) NoWidth
+
+-- what holds of no bytes and of a byte in front of a token holds of the token there, whether that byte is white space or not
+token-split : (P : List ℕ → Type 0) (b : ℕ) (s : List ℕ) → P [] → P (b ∷ token s) → P (token (b ∷ s))
+unfolding run
+token-split P b s none some = go (isOf Solid b)
+  where
+    go : (t : Bool) → P (cond t (b ∷ token s) [])
+    go true = some
+    go false = none
+
+-- a token by its first byte
+token-more : (b : ℕ) (s : List ℕ) → isOf Solid b ≡ true → token (b ∷ s) ≡ b ∷ token s
+unfolding run
+token-more b s e = rw e
+
+-- a token that ends, or goes on
+token-ends : (s : List ℕ) → endsToken s ≡ true → token s ≡ []
+unfolding run isOf endsToken
+token-ends [] e = refl
+token-ends (b ∷ s) e = rw e
+
+token-goes : (s : List ℕ) → endsToken s ≡ false → 0 < length (token s)
+unfolding run isOf endsToken
+token-goes [] e = never (cc e)
+token-goes (b ∷ s) e = rw e (omega arith)
+
+-- the colon and the letter are no white space
+solid-colon : isOf Solid 58 ≡ true
+unfolding isOf isSpace
+solid-colon = refl
+
+solid-letter : isOf Solid 105 ≡ true
+unfolding isOf isSpace
+solid-letter = refl
+
+-- no type: the part behind the colon is none, or the part behind the letter is no numeral
+colon-no : (b : ℕ) (t : List ℕ) → typeOf t ≡ NoType → typeBehindColon (b ∷ t) ≡ NoType
+unfolding typeBehindColon
+colon-no b t e = rw e (same (eqb b 58))
+  where
+    same : (u : Bool) → cond u NoType NoType ≡ NoType
+    same true = refl
+    same false = refl
+
+letter-no : (b : ℕ) (t : List ℕ) → isNumeral 2 t ≡ false → typeOf (b ∷ t) ≡ NoType
+unfolding typeOf isType
+letter-no b t e = rw (e, and-false)
+
+numeral-no : (b c : ℕ) (t : List ℕ) → isNumeral 2 t ≡ false → typeBehindColon (b ∷ c ∷ t) ≡ NoType
+numeral-no b c t e = colon-no b (c ∷ t) (letter-no c t e)
+
+-- the bytes are too few
+behind-short : (t : List ℕ) → length t < 3 → typeBehindColon t ≡ NoType
+unfolding typeBehindColon typeOf isType isNumeral
+behind-short [] h = refl
+behind-short (b ∷ []) h = colon-no b [] refl
+behind-short (b ∷ c ∷ []) h = numeral-no b c [] refl
+behind-short (b ∷ c ∷ d ∷ t) h = absurd (omega arith)
+
+-- a byte is not the one that stands there in a type
+colon-other : (b : ℕ) (s : List ℕ) → (b ≡ 58 → ⊥) → typeBehindColon (token (b ∷ s)) ≡ NoType
+unfolding typeBehindColon
+colon-other b s k = token-split (λ t. typeBehindColon t ≡ NoType) b s refl (rw (ne-eqb b 58 k))
+
+letter-other : (b : ℕ) (s : List ℕ) → (b ≡ 105 → ⊥) → typeOf (token (b ∷ s)) ≡ NoType
+unfolding typeOf isType
+letter-other b s k = token-split (λ t. typeOf t ≡ NoType) b s refl (rw (ne-eqb b 105 k))
+
+digit-other : (b : ℕ) (s : List ℕ) → isDigit b ≡ false → isNumeral 2 (token (b ∷ s)) ≡ false
+unfolding isNumeral every
+digit-other b s e = token-split (λ t. isNumeral 2 t ≡ false) b s refl (rw (e, and-false))
+
+-- the numeral has a byte that is no digit, or too many
+second-other : (a b : ℕ) (t : List ℕ) → isDigit b ≡ false → isNumeral 2 (a ∷ b ∷ t) ≡ false
+unfolding isNumeral every
+second-other a b t e = rw (e, and-false, and-false)
+
+numeral-long : (t : List ℕ) → 2 < length t → isNumeral 2 t ≡ false
+unfolding isNumeral
+numeral-long t h = rw (lt-leb (length t) 2 h, and-false)
+
+-- a zero leads
+zero-leads : (b c : ℕ) (t : List ℕ) → typeOf (b ∷ 48 ∷ c ∷ t) ≡ NoType
+unfolding typeOf isType leadingZero
+zero-leads b c t = rw and-false
+
+-- the types
+one-digit : (a : ℕ) → isDigit a ≡ true → typeBehindColon (58 ∷ 105 ∷ a ∷ []) ≡ widthOf (a - 48)
+unfolding typeBehindColon typeOf isType isNumeral every leadingZero decimalFrom
+one-digit a d = rw d (let z : 0 * 10 + (a - 48) ≡ a - 48 = omega arith in ap widthOf z)
+
+two-digits : (a b : ℕ) → isDigit a ≡ true → isDigit b ≡ true → (a - 48 ≡ 0 → ⊥) → typeBehindColon (58 ∷ 105 ∷ a ∷ b ∷ []) ≡ widthOf ((a - 48) * 10 + (b - 48))
+unfolding typeBehindColon typeOf isType isNumeral every leadingZero decimalFrom
+two-digits a b d e k = rw (d, e, ne-eqb a 48 (λ (h : a ≡ 48). k (omega arith))) (let z : (0 * 10 + (a - 48)) * 10 + (b - 48) ≡ (a - 48) * 10 + (b - 48) = omega arith in ap widthOf z)
+
+-- what a reader of a text f from `at` on has met: the colon and the letter, a byte behind them, and a second one
+abbrev pub Opened : List ℕ → ℕ → Type 0
+Opened f at = token (drop at f) ≡ 58 ∷ 105 ∷ token (drop (at + 2) f)
+
+abbrev pub Led : List ℕ → ℕ → Type 0
+Led f at = token (drop at f) ≡ 58 ∷ 105 ∷ getD f (at + 2) 0 ∷ token (drop (at + 3) f)
+
+abbrev pub Longer : List ℕ → ℕ → Type 0
+Longer f at = token (drop at f) ≡ 58 ∷ 105 ∷ getD f (at + 2) 0 ∷ getD f (at + 3) 0 ∷ token (drop (at + 4) f)
+
+-- and what the contract calls the type there
+abbrev found : List ℕ → ℕ → TypeRead
+found f at = typeBehindColon (token (drop at f))
+
+-- a byte of f, and the text behind it
+token-at : (f : List ℕ) (i n : ℕ) → i < length f → n ≡ suc i → token (drop i f) ≡ token (getD f i 0 ∷ drop n f)
+token-at f i n h e = rw (e, drop-cons f i 0 h)
+
+token-step : (f : List ℕ) (i n : ℕ) → i < length f → n ≡ suc i → isOf Solid (getD f i 0) ≡ true → token (drop i f) ≡ getD f i 0 ∷ token (drop n f)
+token-step f i n h e k = token-at f i n h e ∙ token-more (getD f i 0) (drop n f) k
+
+-- a width that is read, where its token stops
+stops : (f : List ℕ) (at stop k : ℕ) (r : TypeRead) → r ≡ widthOf k → found f at ≡ widthOf k → at + length (token (drop at f)) ≡ stop → (r ≡ found f at) × StopsAt (past (isOf Solid) f at) stop r
+unfolding past
+stops f at stop k r hr e h = (hr ∙ sym e, rw hr (go (isWidth k)))
+  where
+    go : (t : Bool) → StopsAt (at + length (token (drop at f))) stop (cond t (Width k) NoWidth)
+    go true = sym h
+    go false = sym h
+
+module _ (f : List ℕ) (at : ℕ) where
+  -- too few bytes, or one that is not the one of a type
+  pub type-short : length f - at < 3 → found f at ≡ NoType
+  type-short h = behind-short (token (drop at f)) (omega (arith, simp length-take at (ap length (run-take (isOf Solid) (drop at f))), length-drop at f))
+
+  module _ (h : 3 ≤ length f - at) where
+    pub type-colon : (getD f at 0 ≡ 58 → ⊥) → found f at ≡ NoType
+    type-colon k = rw (drop-cons f at 0 (omega arith)) (colon-other (getD f at 0) (drop (suc at) f) k)
+
+    module _ (c : getD f at 0 ≡ 58) where
+      colon-read : token (drop at f) ≡ 58 ∷ token (drop (at + 1) f)
+      colon-read = token-step f at (at + 1) (omega arith) (omega arith) (rw c solid-colon) ∙ rw c
+
+      pub type-letter : (getD f (at + 1) 0 ≡ 105 → ⊥) → found f at ≡ NoType
+      type-letter k = rw (colon-read, token-at f (at + 1) (at + 2) (omega arith) (omega arith)) (colon-no 58 _ (letter-other (getD f (at + 1) 0) (drop (at + 2) f) k))
+
+      pub opened : getD f (at + 1) 0 ≡ 105 → Opened f at
+      opened k = colon-read ∙ ap (λ (l : List ℕ). 58 ∷ l) (token-step f (at + 1) (at + 2) (omega arith) (omega arith) (rw k solid-letter) ∙ rw k)
+
+    pub type-digit : Opened f at → isDigit (getD f (at + 2) 0) ≡ false → found f at ≡ NoType
+    type-digit o e = rw (o, token-at f (at + 2) (at + 3) (omega arith) (omega arith)) (numeral-no 58 105 _ (digit-other (getD f (at + 2) 0) (drop (at + 3) f) e))
+
+    pub led : Opened f at → isDigit (getD f (at + 2) 0) ≡ true → Led f at
+    unfolding isOf
+    led o e = o ∙ ap (λ (l : List ℕ). 58 ∷ 105 ∷ l) (token-step f (at + 2) (at + 3) (omega arith) (omega arith) (digit-solid _ e))
+
+  -- the token ends behind one digit, or goes on
+  pub type-one : Led f at → isDigit (getD f (at + 2) 0) ≡ true → endsToken (drop (at + 3) f) ≡ true → (r : TypeRead) → r ≡ widthOf (getD f (at + 2) 0 - 48) → (r ≡ found f at) × StopsAt (past (isOf Solid) f at) (at + 3) r
+  type-one l d e r hr = let t = rw (token-ends (drop (at + 3) f) e) at l in stops f at (at + 3) (getD f (at + 2) 0 - 48) r hr (rw t (one-digit (getD f (at + 2) 0) d)) (rw t)
+
+  pub longer : Led f at → endsToken (drop (at + 3) f) ≡ false → Longer f at
+  longer l e = l ∙ ap (λ (t : List ℕ). 58 ∷ 105 ∷ getD f (at + 2) 0 ∷ t) (token-step f (at + 3) (at + 4) (goes-on f (at + 3) e .0) (omega arith) (goes-on f (at + 3) e .1))
+
+  -- two bytes behind the letter
+  module _ (l : Longer f at) where
+    pub type-second : isDigit (getD f (at + 3) 0) ≡ false → found f at ≡ NoType
+    type-second e = rw l (numeral-no 58 105 _ (second-other (getD f (at + 2) 0) (getD f (at + 3) 0) (token (drop (at + 4) f)) e))
+
+    pub type-zero : isDigit (getD f (at + 2) 0) ≡ true → getD f (at + 2) 0 - 48 ≡ 0 → found f at ≡ NoType
+    type-zero d z = let e : getD f (at + 2) 0 ≡ 48 = omega (arith, digit-bounds (getD f (at + 2) 0) d) in rw (l, e) (colon-no 58 _ (zero-leads 105 (getD f (at + 3) 0) (token (drop (at + 4) f))))
+
+    pub type-long : endsToken (drop (at + 4) f) ≡ false → found f at ≡ NoType
+    type-long e = rw l (numeral-no 58 105 _ (numeral-long _ (omega (arith, token-goes (drop (at + 4) f) e))))
+
+    pub type-two : isDigit (getD f (at + 2) 0) ≡ true → isDigit (getD f (at + 3) 0) ≡ true → (getD f (at + 2) 0 - 48 ≡ 0 → ⊥) → endsToken (drop (at + 4) f) ≡ true → (r : TypeRead) → r ≡ widthOf ((getD f (at + 2) 0 - 48) * 10 + (getD f (at + 3) 0 - 48)) → (r ≡ found f at) × StopsAt (past (isOf Solid) f at) (at + 4) r
+    type-two d e z g r hr = let t = rw (token-ends (drop (at + 4) f) g) at l in stops f at (at + 4) _ r hr (rw t (two-digits (getD f (at + 2) 0) (getD f (at + 3) 0) d e z)) (rw t)
