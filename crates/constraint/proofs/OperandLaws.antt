@@ -21,8 +21,8 @@ use Rattle.constraint.specs.declared.Form.{Form}
 use Rattle.constraint.specs.declared.Operands.{Operands}
 use Rattle.constraint.specs.File.{Variable, File, edition}
 use Rattle.spelling.specs.Operators.{operatorNamed}
-use Rattle.constraint.specs.Read.{readOperand, nextOperand, noOperands, inFront, maxOperands, readOperands, readOperation, nextOutput, readStatement}
-use Rattle.constraint.specs.Answers.{lineAt, takenBehind, finished}
+use Rattle.constraint.specs.Read.{readOperand, nextOperand, noOperands, inFront, readOperands, readOperation, nextOutput, readStatement}
+use Rattle.constraint.specs.Answers.{lineAt, maxOperands, takenBehind, finished}
 use Rattle.constraint.proofs.HeaderLaws.{arguments-at, end-at}
 
 -- ---- the next operand

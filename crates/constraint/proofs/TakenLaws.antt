@@ -16,7 +16,7 @@ use Rattle.text.specs.Lines.{TextLine, Token, tokensFrom}
 use Rattle.text.specs.declared.Class.the-variants.{Space, Solid, NameByte}
 use Rattle.text.specs.Scan.{isOf, past, endsToken}
 use Rattle.text.proofs.RunLaws.{past-le}
-use Rattle.text.proofs.TokenLaws.{tokens-turn, token-bounds}
+use Rattle.text.proofs.TokenLaws.{tokens-turn, token-within}
 use Rattle.text.proofs.FirstByteLaws.{name-stops, name-whole, name-broken, letter-starts, no-name}
 use Rattle.constraint.specs.declared.Operand.{Operand}
 use Rattle.constraint.specs.File.{Variable}
@@ -78,5 +78,5 @@ module _ (xs : List Variable) (line : List ℕ) (i start : ℕ) (hs : start ≡ 
   unfolding takenFrom nextOperand
   next-constant l a =
       let end = past (isOf Solid) line start in
-      let b = token-bounds line i start hs h end refl in
+      let b = token-within line i start hs h end refl in
       rw (tokens-turn line i start hs h end refl, ← operand-other xs (tokenAt (take end line) start) (no-name line start h a end (b .1) (b .2)))

@@ -136,10 +136,6 @@ noOperands = record { first = Absent; second = Absent; third = Absent }
 abbrev pub inFront : Operand → Operands → Operands
 inFront o os = record { first = o; second = os .first; third = os .second }
 
--- an operator takes 1 to 3 operands
-abbrev pub maxOperands : ℕ
-maxOperands = 3
-
 -- the next n operands, and the tokens behind them
 unfoldable pub readOperands : List Variable → TextLine → ℕ → List Token → Result (Operands × List Token)
 readOperands xs l zero ts = accepted (noOperands, ts)

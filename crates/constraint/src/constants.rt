@@ -10,7 +10,7 @@ use text::Number;
 use text::TypeRead;
 use text::numbers::counted;
 use text::numbers::digits_at;
-use text::numbers::type_found;
+use text::numbers::type_at;
 ghost use mathlib.Core.Path.{_≡_};
 ghost use Prim.Native.Nat.{_≤_};
 ghost use lib.ListN.{length};
@@ -51,7 +51,7 @@ pub(crate) fn constant(line: &[u8], at: usize) -> Taken
     let colon = digits.stop;
     let read = digits.number;
     let number = counted(read, colon - at, MAX_DIGITS);
-    let found = type_found(line, colon);
+    let found = type_at(line, colon);
     let stop = found.stop;
     let kind = found.kind;
     match constant_of(number, kind) {

@@ -21,7 +21,7 @@ ghost use Rattle.text.specs.Lines.{tokensFrom};
 ghost use Rattle.constraint.specs.File.{File};
 ghost use Rattle.constraint.specs.Tables.{variablesIn};
 ghost use Rattle.constraint.specs.Read.{declareAll, readDeclarations};
-ghost use Rattle.constraint.specs.Answers.{bytes, declaredResult, DeclaredInTables, withVariablesRead, lineAt, held, fileHeld, stepResult, InTables, StepInTables};
+ghost use Rattle.constraint.specs.Answers.{byteValues, declaredResult, DeclaredInTables, withVariablesRead, lineAt, held, fileHeld, stepResult, InTables, StepInTables};
 
 // The declarations of the line that stops at `stop`, from `at` on, put behind the n variables that are held.
 pub(crate) fn declare_all(
@@ -34,8 +34,8 @@ pub(crate) fn declare_all(
     widths: &mut [u64; Edition::VARIABLES],
     n: usize,
 ) -> Declared
-    requires { ⌜ (at ≤ stop) × (stop ≤ length (now file)) × (n ≤ maxVariables) × (length (now starts) ≡ maxVariables) × (length (now lens) ≡ maxVariables) × (length (now guesses) ≡ bytes) × (length (now widths) ≡ maxVariables) ⌝ }
-    ensures { λ r. ⌜ ((f : File) → f .variables ≡ variablesIn (now (file .entry)) (now (starts .entry)) (now (lens .entry)) (now (widths .entry)) n → declaredResult f (variablesIn (now (file .entry)) (now (starts .exit)) (now (lens .exit)) (now (widths .exit))) r ≡ declareAll f (tokensFrom true at (drop at (take stop (now (file .entry)))))) × (length (now (starts .exit)) ≡ maxVariables) × (length (now (lens .exit)) ≡ maxVariables) × (length (now (guesses .exit)) ≡ bytes) × (length (now (widths .exit)) ≡ maxVariables) × DeclaredInTables r ⌝ }
+    requires { ⌜ (at ≤ stop) × (stop ≤ length (now file)) × (n ≤ maxVariables) × (length (now starts) ≡ maxVariables) × (length (now lens) ≡ maxVariables) × (length (now guesses) ≡ byteValues) × (length (now widths) ≡ maxVariables) ⌝ }
+    ensures { λ r. ⌜ ((f : File) → f .variables ≡ variablesIn (now (file .entry)) (now (starts .entry)) (now (lens .entry)) (now (widths .entry)) n → declaredResult f (variablesIn (now (file .entry)) (now (starts .exit)) (now (lens .exit)) (now (widths .exit))) r ≡ declareAll f (tokensFrom true at (drop at (take stop (now (file .entry)))))) × (length (now (starts .exit)) ≡ maxVariables) × (length (now (lens .exit)) ≡ maxVariables) × (length (now (guesses .exit)) ≡ byteValues) × (length (now (widths .exit)) ≡ maxVariables) × DeclaredInTables r ⌝ }
 {
     let mut k = n;
     let mut i = at;
@@ -91,8 +91,8 @@ pub(crate) fn declaration_line(
     widths: &mut [u64; Edition::VARIABLES],
     p: Progress,
 ) -> Step
-    requires { ⌜ (at < stop) × (stop ≤ length (now file)) × InTables p × (length (now starts) ≡ maxVariables) × (length (now lens) ≡ maxVariables) × (length (now guesses) ≡ bytes) × (length (now widths) ≡ maxVariables) ⌝ }
-    ensures { λ r. ⌜ ((lines : List ℕ) (next : ℕ) → stepResult (now (file .entry)) (held (now (starts .exit)) (now (lens .exit)) (now (widths .exit)) lines) r ≡ readDeclarations (fileHeld (now (file .entry)) (held (now (starts .entry)) (now (lens .entry)) (now (widths .entry)) lines) p) (lineAt (take stop (now (file .entry))) at next)) × (length (now (starts .exit)) ≡ maxVariables) × (length (now (lens .exit)) ≡ maxVariables) × (length (now (guesses .exit)) ≡ bytes) × (length (now (widths .exit)) ≡ maxVariables) × StepInTables r ⌝ }
+    requires { ⌜ (at < stop) × (stop ≤ length (now file)) × InTables p × (length (now starts) ≡ maxVariables) × (length (now lens) ≡ maxVariables) × (length (now guesses) ≡ byteValues) × (length (now widths) ≡ maxVariables) ⌝ }
+    ensures { λ r. ⌜ ((lines : List ℕ) (next : ℕ) → stepResult (now (file .entry)) (held (now (starts .exit)) (now (lens .exit)) (now (widths .exit)) lines) r ≡ readDeclarations (fileHeld (now (file .entry)) (held (now (starts .entry)) (now (lens .entry)) (now (widths .entry)) lines) p) (lineAt (take stop (now (file .entry))) at next)) × (length (now (starts .exit)) ≡ maxVariables) × (length (now (lens .exit)) ≡ maxVariables) × (length (now (guesses .exit)) ≡ byteValues) × (length (now (widths .exit)) ≡ maxVariables) × StepInTables r ⌝ }
 {
     let n = p.variables;
     let m = p.lines;

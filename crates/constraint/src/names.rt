@@ -11,7 +11,7 @@ use spelling::is_reserved;
 use text::Class;
 use text::TypeRead;
 use text::compare::same_part;
-use text::numbers::type_behind;
+use text::numbers::type_at;
 use text::scan::is_name;
 use text::scan::name_bytes;
 use text::scan::scan;
@@ -23,12 +23,15 @@ ghost use Prim.Native.Nat.{ℕ, _≤_, _<_};
 ghost use lib.ListN.{length, getD, drop};
 ghost use Rattle.edition.specs.declared.Edition.{Edition as TheEdition};
 ghost use Rattle.edition.specs.Edition.{maxVariables};
+ghost use Rattle.refusal.specs.Lists.{every};
 ghost use Rattle.text.specs.Bytes.{isLetter};
+ghost use Rattle.text.specs.declared.Class.the-variants.{Solid};
+ghost use Rattle.text.specs.Scan.{isOf};
 ghost use Rattle.constraint.specs.File.{variableNamed};
 ghost use Rattle.constraint.specs.Tables.{variablesIn};
 ghost use Rattle.constraint.specs.Read.{readVariable, readOperand, declare as declareBy};
 ghost use Rattle.constraint.specs.Claims.{Distinct};
-ghost use Rattle.constraint.specs.Answers.{bytes, tokenAt, takenFrom, takenResult, TakenWithin, place, operandResult, declarationResult, newName, Fits};
+ghost use Rattle.constraint.specs.Answers.{byteValues, tokenAt, takenFrom, takenResult, TakenWithin, place, operandResult, declarationResult, newName, Fits};
 
 // The values of a byte.
 pub(crate) const BYTES: usize = 256;
@@ -86,8 +89,8 @@ fn find<'a>(
 
 // Names that end as the one that stops at `end` are guessed to be variable k's.
 pub(crate) fn remember(guesses: &mut [usize; BYTES], file: &[u8], end: usize, k: usize)
-    requires { ⌜ (length (now guesses) ≡ bytes) × (end ≤ length (now file)) ⌝ }
-    ensures { λ _. ⌜ length (now (guesses .exit)) ≡ bytes ⌝ }
+    requires { ⌜ (length (now guesses) ≡ byteValues) × (end ≤ length (now file)) ⌝ }
+    ensures { λ _. ⌜ length (now (guesses .exit)) ≡ byteValues ⌝ }
 {
     if 0 < end {
         let last = end - 1;
@@ -181,11 +184,12 @@ pub(crate) fn declare<'a>(
     text: &[u8],
     at: usize,
 ) -> Declaration
-    requires { ⌜ (at ≤ length (now text)) × (n ≤ maxVariables) ⌝ }
+    requires { ⌜ (at ≤ length (now text)) × (n ≤ maxVariables) × (every (isOf Solid) (drop at (now text)) ≡ true) ⌝ }
     ensures { λ r. ⌜ ((e : TheEdition) (widths : List ℕ) → declarationResult (tokenAt (now (text .entry)) at) r ≡ declareBy e (variablesIn (now (file .entry)) (now (starts .entry)) (now (lens .entry)) widths n) (tokenAt (now (text .entry)) at)) × Fits n at (length (now (text .entry))) r ⌝ }
 {
     let colon = scan(text, at, Class::Until(b':'));
-    let kind = type_behind(text, colon);
+    let found = type_at(text, colon);
+    let kind = found.kind;
     if is_name(&text[..colon], at) {
         match kind {
             TypeRead::NoType => Declaration::Faulty(Refusal::MISSPELT),

@@ -30,8 +30,8 @@ ghost use Rattle.text.specs.Lines.{tokensFrom};
 ghost use Rattle.constraint.specs.File.{File};
 ghost use Rattle.constraint.specs.Tables.{variablesIn};
 ghost use Rattle.constraint.specs.Claims.{Distinct};
-ghost use Rattle.constraint.specs.Read.{nextOperand, readOperands, maxOperands, readOperation, nextOutput, readStatement};
-ghost use Rattle.constraint.specs.Answers.{lineAt, takenResult, TakenWithin, operandsResult, AllWithin, takenBehind, finished, lineResult};
+ghost use Rattle.constraint.specs.Read.{nextOperand, readOperands, readOperation, nextOutput, readStatement};
+ghost use Rattle.constraint.specs.Answers.{lineAt, takenResult, TakenWithin, operandsResult, AllWithin, maxOperands, takenBehind, finished, lineResult};
 
 // The operand of the next token of the line from `i` on.
 fn take_operand<'a>(

@@ -38,7 +38,7 @@ ghost use Rattle.constraint.specs.File.{emptyFile};
 ghost use Rattle.constraint.specs.Tables.{tableWords};
 ghost use Rattle.constraint.specs.Read.{kindOf, addLine, readLine, readFile};
 ghost use Rattle.constraint.specs.Claims.{Distinct};
-ghost use Rattle.constraint.specs.Answers.{bytes, heldVariables, lineResult, HasRoom, nothingRead, withLineRead, lineAt, held, Whole, fileHeld, stepResult, InTables, StepInTables};
+ghost use Rattle.constraint.specs.Answers.{byteValues, heldVariables, lineResult, HasRoom, nothingRead, withLineRead, lineAt, held, Whole, fileHeld, stepResult, InTables, StepInTables};
 
 // The kind of the line from `at` to the end.
 fn kind_of(line: &[u8], at: usize) -> Kind
@@ -107,8 +107,8 @@ fn read_line(
     lines: &mut [u64; TABLE_WORDS],
     p: Progress,
 ) -> Step
-    requires { ⌜ (at < stop) × (stop ≤ length (now file)) × InTables p × Whole (held (now starts) (now lens) (now widths) (now lines)) × (length (now guesses) ≡ bytes) × Distinct (heldVariables (now file) (held (now starts) (now lens) (now widths) (now lines)) (p .variables)) ⌝ }
-    ensures { λ r. ⌜ ((next : ℕ) → stepResult (now (file .entry)) (held (now (starts .exit)) (now (lens .exit)) (now (widths .exit)) (now (lines .exit))) r ≡ readLine (fileHeld (now (file .entry)) (held (now (starts .entry)) (now (lens .entry)) (now (widths .entry)) (now (lines .entry))) p) (lineAt (take stop (now (file .entry))) at next)) × Whole (held (now (starts .exit)) (now (lens .exit)) (now (widths .exit)) (now (lines .exit))) × (length (now (guesses .exit)) ≡ bytes) × StepInTables r ⌝ }
+    requires { ⌜ (at < stop) × (stop ≤ length (now file)) × InTables p × Whole (held (now starts) (now lens) (now widths) (now lines)) × (length (now guesses) ≡ byteValues) × Distinct (heldVariables (now file) (held (now starts) (now lens) (now widths) (now lines)) (p .variables)) ⌝ }
+    ensures { λ r. ⌜ ((next : ℕ) → stepResult (now (file .entry)) (held (now (starts .exit)) (now (lens .exit)) (now (widths .exit)) (now (lines .exit))) r ≡ readLine (fileHeld (now (file .entry)) (held (now (starts .entry)) (now (lens .entry)) (now (widths .entry)) (now (lines .entry))) p) (lineAt (take stop (now (file .entry))) at next)) × Whole (held (now (starts .exit)) (now (lens .exit)) (now (widths .exit)) (now (lines .exit))) × (length (now (guesses .exit)) ≡ byteValues) × StepInTables r ⌝ }
 {
     let n = p.variables;
     let m = p.lines;
@@ -148,8 +148,8 @@ fn read_any_line(
     lines: &mut [u64; TABLE_WORDS],
     p: Progress,
 ) -> Step
-    requires { ⌜ (at ≤ stop) × (stop ≤ length (now file)) × InTables p × Whole (held (now starts) (now lens) (now widths) (now lines)) × (length (now guesses) ≡ bytes) × Distinct (heldVariables (now file) (held (now starts) (now lens) (now widths) (now lines)) (p .variables)) × (every (isOf Allowed) (drop at (take stop (now file))) ≡ true) ⌝ }
-    ensures { λ r. ⌜ ((next : ℕ) → stepResult (now (file .entry)) (held (now (starts .exit)) (now (lens .exit)) (now (widths .exit)) (now (lines .exit))) r ≡ readAnyLine TheConstraint readLine (fileHeld (now (file .entry)) (held (now (starts .entry)) (now (lens .entry)) (now (widths .entry)) (now (lines .entry))) p) (lineAt (take stop (now (file .entry))) at next)) × Whole (held (now (starts .exit)) (now (lens .exit)) (now (widths .exit)) (now (lines .exit))) × (length (now (guesses .exit)) ≡ bytes) × StepInTables r ⌝ }
+    requires { ⌜ (at ≤ stop) × (stop ≤ length (now file)) × InTables p × Whole (held (now starts) (now lens) (now widths) (now lines)) × (length (now guesses) ≡ byteValues) × Distinct (heldVariables (now file) (held (now starts) (now lens) (now widths) (now lines)) (p .variables)) × (every (isOf Allowed) (drop at (take stop (now file))) ≡ true) ⌝ }
+    ensures { λ r. ⌜ ((next : ℕ) → stepResult (now (file .entry)) (held (now (starts .exit)) (now (lens .exit)) (now (widths .exit)) (now (lines .exit))) r ≡ readAnyLine TheConstraint readLine (fileHeld (now (file .entry)) (held (now (starts .entry)) (now (lens .entry)) (now (widths .entry)) (now (lines .entry))) p) (lineAt (take stop (now (file .entry))) at next)) × Whole (held (now (starts .exit)) (now (lens .exit)) (now (widths .exit)) (now (lines .exit))) × (length (now (guesses .exit)) ≡ byteValues) × StepInTables r ⌝ }
 {
     if all(&file[..stop], at, Class::Space) {
         return Step::Next(p);
@@ -189,8 +189,8 @@ fn read_lines(
     widths: &mut [u64; Edition::VARIABLES],
     lines: &mut [u64; TABLE_WORDS],
 ) -> Step
-    requires { ⌜ Whole (held (now starts) (now lens) (now widths) (now lines)) × (length (now guesses) ≡ bytes) ⌝ }
-    ensures { λ r. ⌜ (stepResult (now (file .entry)) (held (now (starts .exit)) (now (lens .exit)) (now (widths .exit)) (now (lines .exit))) r ≡ readLines TheConstraint readLine emptyFile (linesOf (now (file .entry)))) × Whole (held (now (starts .exit)) (now (lens .exit)) (now (widths .exit)) (now (lines .exit))) × (length (now (guesses .exit)) ≡ bytes) × StepInTables r ⌝ }
+    requires { ⌜ Whole (held (now starts) (now lens) (now widths) (now lines)) × (length (now guesses) ≡ byteValues) ⌝ }
+    ensures { λ r. ⌜ (stepResult (now (file .entry)) (held (now (starts .exit)) (now (lens .exit)) (now (widths .exit)) (now (lines .exit))) r ≡ readLines TheConstraint readLine emptyFile (linesOf (now (file .entry)))) × Whole (held (now (starts .exit)) (now (lens .exit)) (now (widths .exit)) (now (lines .exit))) × (length (now (guesses .exit)) ≡ byteValues) × StepInTables r ⌝ }
 {
     let mut p = nothing();
     let mut i = 0;

@@ -1,5 +1,5 @@
 -- Runs of bytes that pass a test: where a run ends, what it is made of, and when it is the whole text. Assumes nothing.
-use Prim.Native.Nat.{ℕ, suc, _+_, _≤_, _<_}
+use Prim.Native.Nat.{ℕ, zero, suc, _+_, _≤_, _<_}
 use mathlib.Core.Path.{_≡_, refl, ap, sym, _∙_}
 use mathlib.Core.List.{List, [], _∷_, _++_}
 use mathlib.Core.Bool.{Bool, true, false, cond, _&&_}
@@ -11,6 +11,7 @@ use lib.ListN.{length, getD, take, drop, length-append, length-take, length-drop
 use lib.Seq.{getD-drop, drop-cons, drop-drop, drop-at, take-add, take-length, length-take-le}
 use borrow.Author.Tests.{eq-eqb, ne-eqb}
 use Rattle.refusal.specs.Lists.{every}
+use Rattle.refusal.proofs.BoolLaws.{and-true}
 use Rattle.refusal.proofs.ResultLaws.{never}
 use Rattle.text.specs.Bytes.{run}
 use Rattle.text.specs.Scan.{past}
@@ -58,6 +59,14 @@ every-of-run p (b ∷ s) = go (p b) refl (run p s) (every-of-run p s)
     go : (t : Bool) → p b ≡ t → (r : List ℕ) → every p r ≡ true → every p (cond t (b ∷ r) []) ≡ true
     go true e r ih = rw (e, ih)
     go false e r ih = refl
+
+-- in a text whose bytes all pass, the run at each place is all that follows
+pub run-rest : (p : ℕ → Bool) (s : List ℕ) (n : ℕ) → every p s ≡ true → run p (drop n s) ≡ drop n s
+unfolding run every
+run-rest p [] zero h = refl
+run-rest p [] (suc n) h = refl
+run-rest p (b ∷ s) zero h = let q = and-true (p b) (every p s) h in rw (q .0) (ap (λ (l : List ℕ). b ∷ l) (run-rest p s 0 (q .1)))
+run-rest p (b ∷ s) (suc n) h = run-rest p s n (and-true (p b) (every p s) h .1)
 
 -- behind a run no other begins
 run-none : (p : ℕ → Bool) (s : List ℕ) → run p (drop (length (run p s)) s) ≡ []

@@ -12,7 +12,7 @@ use Rattle.text.specs.Lines.{Token, tokenOf, tokensFrom}
 use Rattle.text.specs.Spelling.{upTo, behind}
 use Rattle.text.specs.declared.Class.the-variants.{Until, Space, Solid}
 use Rattle.text.specs.Scan.{isOf, past}
-use Rattle.text.proofs.RunLaws.{past-more, past-ge, past-le, past-fails, run-part, scan-bounds}
+use Rattle.text.proofs.RunLaws.{past-more, past-ge, past-le, past-fails, run-part, every-of-run, scan-bounds}
 use lib.Dec.{eqb}
 use borrow.Author.Tests.{eqb-true, eq-eqb}
 use Rattle.refusal.specs.Lists.{every}
@@ -86,12 +86,12 @@ module _ (line : List ℕ) (i b : ℕ) (hb : b ≡ past (isOf Space) line i) whe
     pub tokens-turn : tokensFrom true i (drop i line) ≡ record { start = b; bytes = drop b (take e line) } ∷ tokensFrom true e (drop e line)
     tokens-turn = tokens-skip line i ∙ rw (← skipped, stopped) (tokens-at line b h at-token)
 
-    -- the token lies within the line, and is not empty
-    pub token-bounds : (i ≤ b) × (b < e) × (e ≤ length line)
-    token-bounds =
+    -- the token lies within the line, and is not empty; it has no white space
+    pub token-within : (i ≤ b) × (b < e) × (e ≤ length line) × (every (isOf Solid) (drop b (take e line)) ≡ true)
+    token-within =
         let s : solid (getD line b 0) ≡ true = rw at-token in
         let m = past-more solid line b h s in
-        (omega (arith, past-ge (isOf Space) line i), omega (arith, past-ge solid line (b + 1), stopped), omega (arith, past-le solid line b (omega arith), stopped))
+        (omega (arith, past-ge (isOf Space) line i), omega (arith, past-ge solid line (b + 1), stopped), omega (arith, past-le solid line b (omega arith), stopped), rw (he, ← run-part (isOf Solid) line b (omega arith)) (every-of-run (isOf Solid) (drop b line)))
 
 -- the parts of a token before and behind its first byte c, which a scan from `at` finds at m
 module _ (f : List ℕ) (at c m : ℕ) (h : at ≤ length f) (hm : m ≡ past (isOf (Until c)) f at) where

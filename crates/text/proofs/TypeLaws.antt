@@ -2,15 +2,15 @@
 use Prim.Native.Nat.{ℕ, suc, _+_, _-_, _*_, _≤_, _<_}
 use mathlib.Core.Path.{_≡_, refl, ap, sym, _∙_}
 use mathlib.Core.List.{List, [], _∷_}
-use mathlib.Core.Bool.{Bool, true, false, cond}
+use mathlib.Core.Bool.{Bool, true, false, not, cond, _&&_}
 use native.Mathlib.Omega.{arith}
 use lib.Dec.{eqb}
 use lib.ListN.{length, getD, drop, length-drop, length-take}
 use lib.Seq.{drop-cons}
-use borrow.Author.Tests.{ne-eqb, lt-leb}
+use borrow.Author.Tests.{eqb-true, eqb-false, ne-eqb, lt-leb, not-true}
 use Rattle.edition.specs.Edition.{isWidth}
 use Rattle.refusal.specs.Lists.{every}
-use Rattle.refusal.proofs.BoolLaws.{and-false}
+use Rattle.refusal.proofs.BoolLaws.{and-false, and-true}
 use Rattle.refusal.proofs.ResultLaws.{never}
 use Rattle.text.specs.Bytes.{run, isSpace, isDigit}
 use Rattle.text.specs.Spelling.{isNumeral, decimalFrom, leadingZero, isType}
@@ -18,7 +18,7 @@ use Rattle.text.specs.declared.Class.the-variants.{Solid}
 use Rattle.text.specs.declared.TypeRead.{TypeRead}
 use Rattle.text.specs.declared.TypeRead.the-variants.{Width, NoWidth, NoType}
 use Rattle.text.specs.Scan.{isOf, past, endsToken, typeOf, typeBehindColon, StopsAt}
-use Rattle.text.proofs.RunLaws.{run-take}
+use Rattle.text.proofs.RunLaws.{run-take, run-end}
 use Rattle.text.proofs.SeenLaws.{digit-bounds}
 use Rattle.text.proofs.FirstByteLaws.{digit-solid, goes-on}
 
@@ -77,16 +77,16 @@ letter-no : (b : ℕ) (t : List ℕ) → isNumeral 2 t ≡ false → typeOf (b �
 unfolding typeOf isType
 letter-no b t e = rw (e, and-false)
 
-numeral-no : (b c : ℕ) (t : List ℕ) → isNumeral 2 t ≡ false → typeBehindColon (b ∷ c ∷ t) ≡ NoType
-numeral-no b c t e = colon-no b (c ∷ t) (letter-no c t e)
-
 -- the bytes are too few
-behind-short : (t : List ℕ) → length t < 3 → typeBehindColon t ≡ NoType
-unfolding typeBehindColon typeOf isType isNumeral
+behind-short : (t : List ℕ) → length t < 2 → typeBehindColon t ≡ NoType
+unfolding typeBehindColon typeOf isType
 behind-short [] h = refl
 behind-short (b ∷ []) h = colon-no b [] refl
-behind-short (b ∷ c ∷ []) h = numeral-no b c [] refl
-behind-short (b ∷ c ∷ d ∷ t) h = absurd (omega arith)
+behind-short (b ∷ c ∷ t) h = absurd (omega arith)
+
+letter-alone : (b : ℕ) → typeOf (b ∷ []) ≡ NoType
+unfolding isNumeral
+letter-alone b = letter-no b [] refl
 
 -- a byte is not the one that stands there in a type
 colon-other : (b : ℕ) (s : List ℕ) → (b ≡ 58 → ⊥) → typeBehindColon (token (b ∷ s)) ≡ NoType
@@ -116,27 +116,13 @@ unfolding typeOf isType leadingZero
 zero-leads b c t = rw and-false
 
 -- the types
-one-digit : (a : ℕ) → isDigit a ≡ true → typeBehindColon (58 ∷ 105 ∷ a ∷ []) ≡ widthOf (a - 48)
-unfolding typeBehindColon typeOf isType isNumeral every leadingZero decimalFrom
+one-digit : (a : ℕ) → isDigit a ≡ true → typeOf (105 ∷ a ∷ []) ≡ widthOf (a - 48)
+unfolding typeOf isType isNumeral every leadingZero decimalFrom
 one-digit a d = rw d (let z : 0 * 10 + (a - 48) ≡ a - 48 = omega arith in ap widthOf z)
 
-two-digits : (a b : ℕ) → isDigit a ≡ true → isDigit b ≡ true → (a - 48 ≡ 0 → ⊥) → typeBehindColon (58 ∷ 105 ∷ a ∷ b ∷ []) ≡ widthOf ((a - 48) * 10 + (b - 48))
-unfolding typeBehindColon typeOf isType isNumeral every leadingZero decimalFrom
+two-digits : (a b : ℕ) → isDigit a ≡ true → isDigit b ≡ true → (a - 48 ≡ 0 → ⊥) → typeOf (105 ∷ a ∷ b ∷ []) ≡ widthOf ((a - 48) * 10 + (b - 48))
+unfolding typeOf isType isNumeral every leadingZero decimalFrom
 two-digits a b d e k = rw (d, e, ne-eqb a 48 (λ (h : a ≡ 48). k (omega arith))) (let z : (0 * 10 + (a - 48)) * 10 + (b - 48) ≡ (a - 48) * 10 + (b - 48) = omega arith in ap widthOf z)
-
--- what a reader of a text f from `at` on has met: the colon and the letter, a byte behind them, and a second one
-abbrev pub Opened : List ℕ → ℕ → Type 0
-Opened f at = token (drop at f) ≡ 58 ∷ 105 ∷ token (drop (at + 2) f)
-
-abbrev pub Led : List ℕ → ℕ → Type 0
-Led f at = token (drop at f) ≡ 58 ∷ 105 ∷ getD f (at + 2) 0 ∷ token (drop (at + 3) f)
-
-abbrev pub Longer : List ℕ → ℕ → Type 0
-Longer f at = token (drop at f) ≡ 58 ∷ 105 ∷ getD f (at + 2) 0 ∷ getD f (at + 3) 0 ∷ token (drop (at + 4) f)
-
--- and what the contract calls the type there
-abbrev found : List ℕ → ℕ → TypeRead
-found f at = typeBehindColon (token (drop at f))
 
 -- a byte of f, and the text behind it
 token-at : (f : List ℕ) (i n : ℕ) → i < length f → n ≡ suc i → token (drop i f) ≡ token (getD f i 0 ∷ drop n f)
@@ -144,6 +130,22 @@ token-at f i n h e = rw (e, drop-cons f i 0 h)
 
 token-step : (f : List ℕ) (i n : ℕ) → i < length f → n ≡ suc i → isOf Solid (getD f i 0) ≡ true → token (drop i f) ≡ getD f i 0 ∷ token (drop n f)
 token-step f i n h e k = token-at f i n h e ∙ token-more (getD f i 0) (drop n f) k
+
+-- no type that is read, and none that is there
+pub none-read : (r type : TypeRead) (end stop : ℕ) → r ≡ NoType → type ≡ NoType → (r ≡ type) × StopsAt end stop r
+none-read r type end stop hr e = (hr ∙ sym e, rw hr tt)
+
+-- ---- the K of a type, from `at` on
+-- what the contract calls the type there
+abbrev found : List ℕ → ℕ → TypeRead
+found f at = typeOf (105 ∷ token (drop at f))
+
+-- what a reader of a text f from `at` on has met: a byte, and a second one
+abbrev pub Led : List ℕ → ℕ → Type 0
+Led f at = token (drop at f) ≡ getD f at 0 ∷ token (drop (at + 1) f)
+
+abbrev pub Longer : List ℕ → ℕ → Type 0
+Longer f at = token (drop at f) ≡ getD f at 0 ∷ getD f (at + 1) 0 ∷ token (drop (at + 2) f)
 
 -- a width that is read, where its token stops
 stops : (f : List ℕ) (at stop k : ℕ) (r : TypeRead) → r ≡ widthOf k → found f at ≡ widthOf k → at + length (token (drop at f)) ≡ stop → (r ≡ found f at) × StopsAt (past (isOf Solid) f at) stop r
@@ -155,48 +157,76 @@ stops f at stop k r hr e h = (hr ∙ sym e, rw hr (go (isWidth k)))
     go false = sym h
 
 module _ (f : List ℕ) (at : ℕ) where
-  -- too few bytes, or one that is not the one of a type
-  pub type-short : length f - at < 3 → found f at ≡ NoType
+  -- the text ends
+  pub width-none : length f ≤ at → found f at ≡ NoType
+  width-none h = rw (run-end (isOf Solid) f at h) (letter-alone 105)
+
+  -- a first byte
+  module _ (h : at < length f) where
+    pub width-other : isDigit (getD f at 0) ≡ false → found f at ≡ NoType
+    width-other e = rw (token-at f at (at + 1) h (omega arith)) (letter-no 105 _ (digit-other (getD f at 0) (drop (at + 1) f) e))
+
+    pub led : isDigit (getD f at 0) ≡ true → Led f at
+    unfolding isOf
+    led e = token-step f at (at + 1) h (omega arith) (digit-solid _ e)
+
+  -- the token ends behind one digit, or goes on
+  pub width-one : Led f at → isDigit (getD f at 0) ≡ true → endsToken (drop (at + 1) f) ≡ true → (r : TypeRead) → r ≡ widthOf (getD f at 0 - 48) → (r ≡ found f at) × StopsAt (past (isOf Solid) f at) (at + 1) r
+  width-one l d e r hr = let t = rw (token-ends (drop (at + 1) f) e) at l in stops f at (at + 1) (getD f at 0 - 48) r hr (rw t (one-digit (getD f at 0) d)) (rw t)
+
+  pub longer : Led f at → endsToken (drop (at + 1) f) ≡ false → Longer f at
+  longer l e = l ∙ ap (λ (t : List ℕ). getD f at 0 ∷ t) (token-step f (at + 1) (at + 2) (goes-on f (at + 1) e .0) (omega arith) (goes-on f (at + 1) e .1))
+
+  -- two bytes
+  module _ (l : Longer f at) where
+    pub width-second : isDigit (getD f (at + 1) 0) ≡ false → found f at ≡ NoType
+    width-second e = rw l (letter-no 105 _ (second-other (getD f at 0) (getD f (at + 1) 0) (token (drop (at + 2) f)) e))
+
+    width-zero : isDigit (getD f at 0) ≡ true → getD f at 0 - 48 ≡ 0 → found f at ≡ NoType
+    width-zero d z = let e : getD f at 0 ≡ 48 = omega (arith, digit-bounds (getD f at 0) d) in rw (l, e) (zero-leads 105 (getD f (at + 1) 0) (token (drop (at + 2) f)))
+
+    width-long : endsToken (drop (at + 2) f) ≡ false → found f at ≡ NoType
+    width-long e = rw l (letter-no 105 _ (numeral-long _ (omega (arith, token-goes (drop (at + 2) f) e))))
+
+    -- a zero leads, or the token goes on
+    pub width-not : isDigit (getD f at 0) ≡ true → (not (eqb (getD f at 0 - 48) 0) && endsToken (drop (at + 2) f)) ≡ false → found f at ≡ NoType
+    width-not d = go (eqb (getD f at 0 - 48) 0) refl
+      where
+        go : (zero : Bool) → eqb (getD f at 0 - 48) 0 ≡ zero → (not zero && endsToken (drop (at + 2) f)) ≡ false → found f at ≡ NoType
+        go true z e = width-zero d (eqb-true _ _ z)
+        go false z e = width-long e
+
+    pub width-two : isDigit (getD f at 0) ≡ true → isDigit (getD f (at + 1) 0) ≡ true → (not (eqb (getD f at 0 - 48) 0) && endsToken (drop (at + 2) f)) ≡ true → (r : TypeRead) → r ≡ widthOf ((getD f at 0 - 48) * 10 + (getD f (at + 1) 0 - 48)) → (r ≡ found f at) × StopsAt (past (isOf Solid) f at) (at + 2) r
+    width-two d e g r hr =
+        let q = and-true _ _ g in
+        let t = rw (token-ends (drop (at + 2) f) (q .1)) at l in
+        stops f at (at + 2) _ r hr (rw t (two-digits (getD f at 0) (getD f (at + 1) 0) d e (eqb-false _ _ (not-true _ (q .0))))) (rw t)
+
+-- ---- the colon and the letter, from `at` on
+module _ (f : List ℕ) (at : ℕ) where
+  pub type-short : length f - at < 2 → typeBehindColon (token (drop at f)) ≡ NoType
   type-short h = behind-short (token (drop at f)) (omega (arith, simp length-take at (ap length (run-take (isOf Solid) (drop at f))), length-drop at f))
 
-  module _ (h : 3 ≤ length f - at) where
-    pub type-colon : (getD f at 0 ≡ 58 → ⊥) → found f at ≡ NoType
+  module _ (h : 2 ≤ length f - at) where
+    pub type-colon : (getD f at 0 ≡ 58 → ⊥) → typeBehindColon (token (drop at f)) ≡ NoType
     type-colon k = rw (drop-cons f at 0 (omega arith)) (colon-other (getD f at 0) (drop (suc at) f) k)
 
     module _ (c : getD f at 0 ≡ 58) where
       colon-read : token (drop at f) ≡ 58 ∷ token (drop (at + 1) f)
       colon-read = token-step f at (at + 1) (omega arith) (omega arith) (rw c solid-colon) ∙ rw c
 
-      pub type-letter : (getD f (at + 1) 0 ≡ 105 → ⊥) → found f at ≡ NoType
+      pub type-letter : (getD f (at + 1) 0 ≡ 105 → ⊥) → typeBehindColon (token (drop at f)) ≡ NoType
       type-letter k = rw (colon-read, token-at f (at + 1) (at + 2) (omega arith) (omega arith)) (colon-no 58 _ (letter-other (getD f (at + 1) 0) (drop (at + 2) f) k))
 
-      pub opened : getD f (at + 1) 0 ≡ 105 → Opened f at
-      opened k = colon-read ∙ ap (λ (l : List ℕ). 58 ∷ l) (token-step f (at + 1) (at + 2) (omega arith) (omega arith) (rw k solid-letter) ∙ rw k)
+      -- behind them stands the K, whose token is the same
+      module _ (k : getD f (at + 1) 0 ≡ 105) where
+        opened : token (drop at f) ≡ 58 ∷ 105 ∷ token (drop (at + 2) f)
+        opened = colon-read ∙ ap (λ (l : List ℕ). 58 ∷ l) (token-step f (at + 1) (at + 2) (omega arith) (omega arith) (rw k solid-letter) ∙ rw k)
 
-    pub type-digit : Opened f at → isDigit (getD f (at + 2) 0) ≡ false → found f at ≡ NoType
-    type-digit o e = rw (o, token-at f (at + 2) (at + 3) (omega arith) (omega arith)) (numeral-no 58 105 _ (digit-other (getD f (at + 2) 0) (drop (at + 3) f) e))
+        same-stop : past (isOf Solid) f (at + 2) ≡ past (isOf Solid) f at
+        unfolding past
+        same-stop = omega (arith, ap length opened)
 
-    pub led : Opened f at → isDigit (getD f (at + 2) 0) ≡ true → Led f at
-    unfolding isOf
-    led o e = o ∙ ap (λ (l : List ℕ). 58 ∷ 105 ∷ l) (token-step f (at + 2) (at + 3) (omega arith) (omega arith) (digit-solid _ e))
-
-  -- the token ends behind one digit, or goes on
-  pub type-one : Led f at → isDigit (getD f (at + 2) 0) ≡ true → endsToken (drop (at + 3) f) ≡ true → (r : TypeRead) → r ≡ widthOf (getD f (at + 2) 0 - 48) → (r ≡ found f at) × StopsAt (past (isOf Solid) f at) (at + 3) r
-  type-one l d e r hr = let t = rw (token-ends (drop (at + 3) f) e) at l in stops f at (at + 3) (getD f (at + 2) 0 - 48) r hr (rw t (one-digit (getD f (at + 2) 0) d)) (rw t)
-
-  pub longer : Led f at → endsToken (drop (at + 3) f) ≡ false → Longer f at
-  longer l e = l ∙ ap (λ (t : List ℕ). 58 ∷ 105 ∷ getD f (at + 2) 0 ∷ t) (token-step f (at + 3) (at + 4) (goes-on f (at + 3) e .0) (omega arith) (goes-on f (at + 3) e .1))
-
-  -- two bytes behind the letter
-  module _ (l : Longer f at) where
-    pub type-second : isDigit (getD f (at + 3) 0) ≡ false → found f at ≡ NoType
-    type-second e = rw l (numeral-no 58 105 _ (second-other (getD f (at + 2) 0) (getD f (at + 3) 0) (token (drop (at + 4) f)) e))
-
-    pub type-zero : isDigit (getD f (at + 2) 0) ≡ true → getD f (at + 2) 0 - 48 ≡ 0 → found f at ≡ NoType
-    type-zero d z = let e : getD f (at + 2) 0 ≡ 48 = omega (arith, digit-bounds (getD f (at + 2) 0) d) in rw (l, e) (colon-no 58 _ (zero-leads 105 (getD f (at + 3) 0) (token (drop (at + 4) f))))
-
-    pub type-long : endsToken (drop (at + 4) f) ≡ false → found f at ≡ NoType
-    type-long e = rw l (numeral-no 58 105 _ (numeral-long _ (omega (arith, token-goes (drop (at + 4) f) e))))
-
-    pub type-two : isDigit (getD f (at + 2) 0) ≡ true → isDigit (getD f (at + 3) 0) ≡ true → (getD f (at + 2) 0 - 48 ≡ 0 → ⊥) → endsToken (drop (at + 4) f) ≡ true → (r : TypeRead) → r ≡ widthOf ((getD f (at + 2) 0 - 48) * 10 + (getD f (at + 3) 0 - 48)) → (r ≡ found f at) × StopsAt (past (isOf Solid) f at) (at + 4) r
-    type-two d e z g r hr = let t = rw (token-ends (drop (at + 4) f) g) at l in stops f at (at + 4) _ r hr (rw t (two-digits (getD f (at + 2) 0) (getD f (at + 3) 0) d e z)) (rw t)
+        pub type-read : (r : TypeRead) (stop : ℕ) → r ≡ found f (at + 2) → StopsAt (past (isOf Solid) f (at + 2)) stop r → (r ≡ typeBehindColon (token (drop at f))) × StopsAt (past (isOf Solid) f at) stop r
+        unfolding typeBehindColon
+        type-read r stop e s = (e ∙ rw opened, rw same-stop at s)

@@ -10,15 +10,15 @@ use super::scan::token_ends;
 use edition::Edition;
 ghost use mathlib.Core.Path.{_≡_};
 ghost use mathlib.Core.Bool.{cond, _&&_};
+ghost use mathlib.Core.List.{_∷_};
 ghost use Prim.Native.Nat.{_+_, _≤_};
 ghost use lib.Dec.{leb};
 ghost use lib.ListN.{length, drop};
 ghost use Rattle.edition.specs.Edition.{isWidth};
 ghost use Rattle.text.specs.declared.Class.the-variants.{Digit, Solid};
 ghost use Rattle.text.specs.declared.Number.the-variants.{TooBig, Misspelt};
-ghost use Rattle.text.specs.declared.TypeRead.the-variants.{Width, NoWidth};
+ghost use Rattle.text.specs.declared.TypeRead.the-variants.{Width, NoWidth, NoType};
 ghost use Rattle.text.specs.Bytes.{run};
-ghost use Rattle.text.specs.Spelling.{leadingZero};
 ghost use Rattle.text.specs.Scan.{isOf, past, magnitude, numberOf, typeOf, typeBehindColon, StopsAt};
 
 // Digits whose number has passed 2^64 at `at`.
@@ -103,58 +103,6 @@ pub fn number_behind(text: &[u8], at: usize, most: usize) -> Number
     }
 }
 
-// Whether a zero stands in front of another digit.
-fn leading_zero(text: &[u8], at: usize) -> bool
-    requires { ⌜ at ≤ length (now text) ⌝ }
-    ensures { λ r. ⌜ r ≡ leadingZero (drop at (now (text .entry))) ⌝ }
-{
-    if text.len() - at < 2 {
-        return false;
-    }
-    text[at] == b'0'
-}
-
-// The type `iK` from `at` to the end.
-pub fn type_at(text: &[u8], at: usize) -> TypeRead
-    requires { ⌜ at ≤ length (now text) ⌝ }
-    ensures { λ r. ⌜ r ≡ typeOf (drop at (now (text .entry))) ⌝ }
-{
-    if at == text.len() {
-        return TypeRead::NoType;
-    }
-    if text[at] != b'i' {
-        return TypeRead::NoType;
-    }
-    let next = at + 1;
-    let zero = leading_zero(text, next);
-    let number = number_at(text, next, 2);
-    if zero {
-        return TypeRead::NoType;
-    }
-    match number {
-        Number::Misspelt => TypeRead::NoType,
-        Number::TooBig => TypeRead::NoWidth,
-        Number::Value(k) => if Edition::is_width(k) {
-            TypeRead::Width(k)
-        } else {
-            TypeRead::NoWidth
-        },
-    }
-}
-
-// The type behind the byte at `at`; none where the text ends there.
-pub fn type_behind(text: &[u8], at: usize) -> TypeRead
-    requires { ⌜ at ≤ length (now text) ⌝ }
-    ensures { λ r. ⌜ r ≡ typeOf (drop (at + 1) (now (text .entry))) ⌝ }
-{
-    if at < text.len() {
-        let next = at + 1;
-        type_at(text, next)
-    } else {
-        TypeRead::NoType
-    }
-}
-
 // A width that is spelt right.
 fn width(k: u64) -> TypeRead
     ensures { λ r. ⌜ r ≡ cond (isWidth k) (Width k) NoWidth ⌝ }
@@ -166,50 +114,63 @@ fn width(k: u64) -> TypeRead
     }
 }
 
-// The colon and the type `iK` from `at` to the end of the token; where they are not there, it is left open where the token stops.
-pub fn type_found(line: &[u8], at: usize) -> TypeFound
-    requires { ⌜ at ≤ length (now line) ⌝ }
-    ensures { λ r. ⌜ (r .kind ≡ typeBehindColon (run (isOf Solid) (drop at (now (line .entry))))) × StopsAt (past (isOf Solid) (now (line .entry)) at) (r .stop) (r .kind) ⌝ }
+// No type from `at` on.
+fn no_type(at: usize) -> TypeFound
+    ensures { λ r. ⌜ r .kind ≡ NoType ⌝ }
 {
-    let none = TypeFound {
+    TypeFound {
         kind: TypeRead::NoType,
         stop: at,
-    };
-    if line.len() - at < 3 {
-        return none;
     }
-    if line[at] != b':' {
-        return none;
+}
+
+// The K of a type, from `at` to the end of the token: one or two digits.
+fn width_at(line: &[u8], at: usize) -> TypeFound
+    requires { ⌜ at ≤ length (now line) ⌝ }
+    ensures { λ r. ⌜ (r .kind ≡ typeOf (105 ∷ run (isOf Solid) (drop at (now (line .entry))))) × StopsAt (past (isOf Solid) (now (line .entry)) at) (r .stop) (r .kind) ⌝ }
+{
+    if at == line.len() {
+        return no_type(at);
     }
-    let letter = at + 1;
-    if line[letter] != b'i' {
-        return none;
+    if !is_digit(line[at]) {
+        return no_type(at);
     }
-    let high = at + 2;
-    if !is_digit(line[high]) {
-        return none;
-    }
-    let a = (line[high] - b'0') as u64;
-    let low = at + 3;
-    if token_ends(line, low) {
+    let a = (line[at] - b'0') as u64;
+    let next = at + 1;
+    if token_ends(line, next) {
         return TypeFound {
             kind: width(a),
-            stop: low,
+            stop: next,
         };
     }
-    if !is_digit(line[low]) {
-        return none;
+    if !is_digit(line[next]) {
+        return no_type(at);
     }
-    if a == 0 {
-        return none;
-    }
-    let b = (line[low] - b'0') as u64;
-    let stop = at + 4;
-    if token_ends(line, stop) {
+    let b = (line[next] - b'0') as u64;
+    let stop = at + 2;
+    if (a != 0) & token_ends(line, stop) {
         return TypeFound {
             kind: width(a * 10 + b),
             stop,
         };
     }
-    none
+    no_type(at)
+}
+
+// The colon and the type `iK` from `at` to the end of the token; where they are not there, it is left open where the token stops.
+pub fn type_at(line: &[u8], at: usize) -> TypeFound
+    requires { ⌜ at ≤ length (now line) ⌝ }
+    ensures { λ r. ⌜ (r .kind ≡ typeBehindColon (run (isOf Solid) (drop at (now (line .entry))))) × StopsAt (past (isOf Solid) (now (line .entry)) at) (r .stop) (r .kind) ⌝ }
+{
+    if line.len() - at < 2 {
+        return no_type(at);
+    }
+    if line[at] != b':' {
+        return no_type(at);
+    }
+    let letter = at + 1;
+    if line[letter] != b'i' {
+        return no_type(at);
+    }
+    width_at(line, at + 2)
 }

@@ -27,7 +27,7 @@ tokens : (c : tie.After-t Inv-loop μ-loop) → let l = c .before .before .befor
 tokens c = rw (c .t .given .1) at (c .before .before .next-token .ensures .0)
 
 bounds : (c : tie.After-t Inv-loop μ-loop) → let l = c .before .before .before .before in let t = c .t .given .0 .0 in (l .loop .i ≤ t .start) × (t .start < t .stop) × (t .stop ≤ length (l .before .before .before .args .line .now))
-bounds c = rw (c .t .given .1) at (c .before .before .next-token .ensures .1)
+bounds c = let w = rw (c .t .given .1) at (c .before .before .next-token .ensures .1) in (w .0, w .1, w .2)
 
 long : (c : tie.After-t Inv-loop μ-loop) → let t = c .t .given .0 .0 in length (take (t .stop) (c .before .before .before .before .before .before .before .args .line .now)) ≡ t .stop
 long c = length-take-le (c .t .given .0 .0 .stop) (c .before .before .before .before .before .before .before .args .line .now) (bounds c .2)

@@ -24,7 +24,7 @@ read c =
     let d = c .before .before .before in
     let s = d .before .before in
     rw (c .constant-of .ensures)
-    (constant-read (s .args .line .now) (s .args .at) (d .digits-at .result .stop) (s .pre) (d .digits-at .ensures .1) (rw (d .digits-at .ensures .0) at (c .before .before .counted .ensures)) (c .before .type-found .ensures .0))
+    (constant-read (s .args .line .now) (s .args .at) (d .digits-at .result .stop) (s .pre) (d .digits-at .ensures .1) (rw (d .digits-at .ensures .0) at (c .before .before .counted .ensures)) (c .before .type-at .ensures .0))
 
 digits-at-requires : tie.Need-digits-at-requires
 digits-at-requires c κs = search needs
@@ -35,8 +35,8 @@ sub-counted c = bounds c .0
 counted-requires : tie.Need-counted-requires
 counted-requires c κs = search needs
 
-type-found-requires : tie.Need-type-found-requires
-type-found-requires c κs = bounds (c .before) .1
+type-at-requires : tie.Need-type-at-requires
+type-at-requires c κs = bounds (c .before) .1
 
 constant-of-requires : tie.Need-constant-of-requires
 constant-of-requires c κs = search needs
@@ -61,7 +61,7 @@ returns-2 c =
     let m = c .before .before .before in
     let d = m .before .before .before in
     let s = d .before .before in
-    let f = m .before .type-found in
+    let f = m .before .type-at in
     let g = sym (m .constant-of .ensures) ∙ c .before .o .given .1 in
     let e : f .result .stop ≡ past (isOf Solid) (s .args .line .now) (s .args .at) = good-stops (m .before .before .counted .result) (f .result .kind) _ _ _ g (f .ensures .1) ∙ constant-stop (s .args .line .now) (s .args .at) (d .digits-at .result .stop) (s .pre) (d .digits-at .ensures .1) in
     (rw e (taken-read readConstant (s .args .line .now) (s .args .at) (past (isOf Solid) (s .args .line .now) (s .args .at)) refl _ (rw (c .before .o .given .1) at (read m))), omega (arith, e, past-le (isOf Solid) (s .args .line .now) (s .args .at) (s .pre)))
@@ -73,7 +73,7 @@ constant-spec =
     digits-at-requires
     sub-counted
     counted-requires
-    type-found-requires
+    type-at-requires
     constant-of-requires
     enum-known-n
     refusal-requires

@@ -8,13 +8,13 @@ use borrow.Author.Needs.{needs}
 use Rattle.text.specs.Lines.{tokensFrom}
 use Rattle.text.proofs.TokenLaws.{tokens-end}
 use Rattle.constraint.specs.File.{edition}
-use Rattle.constraint.specs.Answers.{bytes, tokenAt}
+use Rattle.constraint.specs.Answers.{byteValues, tokenAt}
 use Rattle.constraint.proofs.DeclareLaws.{Declaring, declaring-starts, declaring-done, declaring-fault, declaring-more}
 use Rattle.constraint.proofs.declarations.declare_all.Statement.{statement}
 use Rattle.constraint.proofs.declarations.declare_all.Tie as tie
 
 abbrev Inv-loop : tie.InvT-loop
-Inv-loop file stop at starts₀ lens₀ guesses₀ widths₀ n k₀ i₀ starts lens guesses widths k i = Declaring file stop at starts₀ lens₀ widths₀ n starts lens widths k i × (length guesses ≡ bytes)
+Inv-loop file stop at starts₀ lens₀ guesses₀ widths₀ n k₀ i₀ starts lens guesses widths k i = Declaring file stop at starts₀ lens₀ widths₀ n starts lens widths k i × (length guesses ≡ byteValues)
 
 abbrev μ-loop : tie.MeasureT-loop
 μ-loop file stop at starts₀ lens₀ guesses₀ widths₀ n k₀ i₀ starts lens guesses widths k i = stop - i
@@ -57,7 +57,7 @@ slice-aggregate-declare c =
 declare-requires : tie.Need-declare-requires Inv-loop μ-loop
 declare-requires c κs =
     let w = rw (c .before .before .before .before .t .given .1) at (c .before .before .before .before .before .before .next-token .ensures .1) in
-    (omega (arith, length-take-le (c .before .before .before .before .t .given .0 .0 .stop) (take (c .before .before .before .before .before .before .before .before .before .before .before .args .stop) (c .before .before .before .before .before .before .before .before .before .before .before .args .file .now)) (w .2)), c .before .before .before .before .before .before .before .before .before .loop .inv .0 .few)
+    (omega (arith, length-take-le (c .before .before .before .before .t .given .0 .0 .stop) (take (c .before .before .before .before .before .before .before .before .before .before .before .args .stop) (c .before .before .before .before .before .before .before .before .before .before .before .args .file .now)) (w .2)), c .before .before .before .before .before .before .before .before .before .loop .inv .0 .few, w .3)
 
 enum-known-number : tie.Need-enum-known-number Inv-loop μ-loop
 enum-known-number c = search needs

@@ -27,17 +27,17 @@ bounds c =
     (b .0, b .1, length-take-le (c .scan .result) (s .args .text .now) (b .1))
 
 -- the declaration, once its name and its type are read
-said : (c : tie.After-is-name) → let s = c .before .before .before in let a = s .before .before .before .args in (e : Edition) (xs : List Variable) (named : Bool) → c .is-name .result ≡ named → (type : TypeRead) → c .before .before .type-behind .result ≡ type → declarationResult (tokenAt (a .text .now) (a .at)) (declarationOf named type (newName e xs (drop (a .at) (take (s .scan .result) (a .text .now))))) ≡ declare e xs (tokenAt (a .text .now) (a .at))
+said : (c : tie.After-is-name) → let s = c .before .before .before in let a = s .before .before .before .args in (e : Edition) (xs : List Variable) (named : Bool) → c .is-name .result ≡ named → (type : TypeRead) → c .before .before .type-at .result .kind ≡ type → declarationResult (tokenAt (a .text .now) (a .at)) (declarationOf named type (newName e xs (drop (a .at) (take (s .scan .result) (a .text .now))))) ≡ declare e xs (tokenAt (a .text .now) (a .at))
 said c e xs named p type q =
     let s = c .before .before .before in
     let o = s .before .before .before in
-    declare-by e xs (o .args .text .now) (o .args .at) (s .scan .result) (o .pre .0) (s .scan .ensures) named (sym p ∙ c .is-name .ensures) type (sym q ∙ c .before .before .type-behind .ensures)
+    declare-by e xs (o .args .text .now) (o .args .at) (s .scan .result) (o .pre .0) (s .scan .ensures) (o .pre .2) named (sym p ∙ c .is-name .ensures) type (sym q ∙ c .before .before .type-at .ensures .0)
 
 scan-requires : tie.Need-scan-requires
 scan-requires c κs = search needs
 
-type-behind-requires : tie.Need-type-behind-requires
-type-behind-requires c κs = omega (arith, bounds c)
+type-at-requires : tie.Need-type-at-requires
+type-at-requires c κs = omega (arith, bounds c)
 
 slice-aggregate-is-name : tie.Need-slice-aggregate-is-name
 slice-aggregate-is-name c = omega (arith, bounds (c .before .before))
@@ -81,7 +81,7 @@ declare-spec =
     tie.close
     (tie.spec
     scan-requires
-    type-behind-requires
+    type-at-requires
     slice-aggregate-is-name
     is-name-requires
     enum-told

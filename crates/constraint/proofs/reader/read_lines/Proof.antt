@@ -12,7 +12,7 @@ use Rattle.text.proofs.ReadingLaws.{Reading, reading-starts, reading-ends, read
 use Rattle.constraint.specs.File.{emptyFile}
 use Rattle.constraint.specs.Read.{readLine}
 use Rattle.constraint.specs.Claims.{SoundFile}
-use Rattle.constraint.specs.Answers.{bytes, held, fileHeld, Whole, InTables}
+use Rattle.constraint.specs.Answers.{byteValues, held, fileHeld, Whole, InTables}
 use Rattle.constraint.proofs.SoundLaws.{any-line-keeps, empty-sound}
 use Rattle.constraint.proofs.ReaderLaws.{faulty-is, faulty-not, nothing-held}
 use Rattle.constraint.proofs.reader.read_lines.Statement.{statement}
@@ -20,7 +20,7 @@ use Rattle.constraint.proofs.reader.read_lines.Tie as tie
 
 abbrev Inv-loop : tie.InvT-loop
 Inv-loop file starts₀ lens₀ guesses₀ widths₀ lines₀ p₀ i₀ starts lens guesses widths lines p i =
-    Reading Constraint readLine emptyFile file (fileHeld file (held starts lens widths lines) p) i × Whole (held starts lens widths lines) × InTables p × (length guesses ≡ bytes) × SoundFile (fileHeld file (held starts lens widths lines) p)
+    Reading Constraint readLine emptyFile file (fileHeld file (held starts lens widths lines) p) i × Whole (held starts lens widths lines) × InTables p × (length guesses ≡ byteValues) × SoundFile (fileHeld file (held starts lens widths lines) p)
 
 abbrev μ-loop : tie.MeasureT-loop
 μ-loop file starts₀ lens₀ guesses₀ widths₀ lines₀ p₀ i₀ starts lens guesses widths lines p i = length file - i

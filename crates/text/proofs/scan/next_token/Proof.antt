@@ -4,7 +4,7 @@ use borrow.Author.Needs.{needs}
 use Rattle.text.specs.declared.Class.the-variants.{Space}
 use Rattle.text.specs.Scan.{isOf}
 use Rattle.text.proofs.RunLaws.{scan-bounds}
-use Rattle.text.proofs.TokenLaws.{tokens-done, tokens-turn, token-bounds}
+use Rattle.text.proofs.TokenLaws.{tokens-done, tokens-turn, token-within}
 use Rattle.text.proofs.scan.next_token.Statement.{statement}
 use Rattle.text.proofs.scan.next_token.Tie as tie
 
@@ -22,7 +22,7 @@ returns-2 c =
     let s = c .before .before .before .before in
     let e = c .before .before .scan .ensures in
     let b = scan-bounds (isOf Space) (s .args .line .now) (s .args .at) _ (s .pre) e in
-    (tokens-turn (s .args .line .now) (s .args .at) _ e (omega arith) _ (c .scan2 .ensures), token-bounds (s .args .line .now) (s .args .at) _ e (omega arith) _ (c .scan2 .ensures))
+    (tokens-turn (s .args .line .now) (s .args .at) _ e (omega arith) _ (c .scan2 .ensures), token-within (s .args .line .now) (s .args .at) _ e (omega arith) _ (c .scan2 .ensures))
 
 pub next-token-spec : {M : Type 1} → statement M
 next-token-spec = tie.close (tie.spec scan-requires returns scan-requires-2 returns-2)
