@@ -1,8 +1,8 @@
 // The line table: nine words to a line. No other module knows how a line is laid out.
 use super::Line;
 use super::Operand;
-use super::Operands;
 use edition::Edition;
+use operator::Operator;
 use operator::Word;
 use operator::numbering::number;
 use operator::numbering::numbered;
@@ -18,6 +18,15 @@ ghost use Rattle.constraint.specs.Words.{headOf, bodyOf, withOperand};
 const LINE_WORDS: usize = 9;
 
 pub const TABLE_WORDS: usize = Edition::LINES * LINE_WORDS;
+
+// Where the words of the output and of the operands stand in a line, behind the operator's.
+const OUTPUT: usize = 1;
+
+const FIRST: usize = 3;
+
+const SECOND: usize = 5;
+
+const THIRD: usize = 7;
 
 // What the first word of an operand says.
 const ABSENT: u64 = 0;
@@ -90,32 +99,48 @@ pub fn store_line(table: &mut [u64; TABLE_WORDS], n: usize, line: Line)
     let op = line.operator;
     table[i] = number(op);
     let output = line.output;
-    store_operand(table, i + 1, output);
+    store_operand(table, i + OUTPUT, output);
     let first = operands.first;
-    store_operand(table, i + 3, first);
+    store_operand(table, i + FIRST, first);
     let second = operands.second;
-    store_operand(table, i + 5, second);
+    store_operand(table, i + SECOND, second);
     let third = operands.third;
-    store_operand(table, i + 7, third);
+    store_operand(table, i + THIRD, third);
 }
 
-// The line at place n.
-pub fn load_line(table: &[u64; TABLE_WORDS], n: usize) -> Line
+// The parts of the line at place n.
+pub fn operator_of(table: &[u64; TABLE_WORDS], n: usize) -> Operator
     requires { ⌜ (length (now table) ≡ tableWords) × (n < maxLines) ⌝ }
-    ensures { λ r. ⌜ r ≡ lineIn (now (table .entry)) n ⌝ }
+    ensures { λ r. ⌜ r ≡ lineIn (now (table .entry)) n .operator ⌝ }
 {
     let i = n * LINE_WORDS;
-    let output = load_operand(table, i + 1);
-    let first = load_operand(table, i + 3);
-    let second = load_operand(table, i + 5);
-    let third = load_operand(table, i + 7);
-    Line {
-        output,
-        operator: numbered(table[i]),
-        operands: Operands {
-            first,
-            second,
-            third,
-        },
-    }
+    numbered(table[i])
+}
+
+pub fn output_of(table: &[u64; TABLE_WORDS], n: usize) -> Operand
+    requires { ⌜ (length (now table) ≡ tableWords) × (n < maxLines) ⌝ }
+    ensures { λ r. ⌜ r ≡ lineIn (now (table .entry)) n .output ⌝ }
+{
+    load_operand(table, n * LINE_WORDS + OUTPUT)
+}
+
+pub fn first_of(table: &[u64; TABLE_WORDS], n: usize) -> Operand
+    requires { ⌜ (length (now table) ≡ tableWords) × (n < maxLines) ⌝ }
+    ensures { λ r. ⌜ r ≡ lineIn (now (table .entry)) n .operands .first ⌝ }
+{
+    load_operand(table, n * LINE_WORDS + FIRST)
+}
+
+pub fn second_of(table: &[u64; TABLE_WORDS], n: usize) -> Operand
+    requires { ⌜ (length (now table) ≡ tableWords) × (n < maxLines) ⌝ }
+    ensures { λ r. ⌜ r ≡ lineIn (now (table .entry)) n .operands .second ⌝ }
+{
+    load_operand(table, n * LINE_WORDS + SECOND)
+}
+
+pub fn third_of(table: &[u64; TABLE_WORDS], n: usize) -> Operand
+    requires { ⌜ (length (now table) ≡ tableWords) × (n < maxLines) ⌝ }
+    ensures { λ r. ⌜ r ≡ lineIn (now (table .entry)) n .operands .third ⌝ }
+{
+    load_operand(table, n * LINE_WORDS + THIRD)
 }

@@ -1,9 +1,12 @@
 // The verdict on a stored line, and on all of them.
 use super::Judged;
-use constraint::Line;
 use constraint::Operand;
 use constraint::tables::TABLE_WORDS;
-use constraint::tables::load_line;
+use constraint::tables::first_of;
+use constraint::tables::operator_of;
+use constraint::tables::output_of;
+use constraint::tables::second_of;
+use constraint::tables::third_of;
 use constraint::typing::width_of;
 use edition::Edition;
 use operator::Applied;
@@ -11,11 +14,11 @@ use operator::Word;
 use operator::evaluate::evaluate;
 ghost use mathlib.Core.Path.{_≡_};
 ghost use mathlib.Core.List.{_++_};
-ghost use Prim.Native.Nat.{_≤_};
+ghost use Prim.Native.Nat.{_≤_, _<_};
 ghost use lib.ListN.{length, getD, drop};
 ghost use Rattle.edition.specs.Edition.{maxVariables, maxLines};
 ghost use Rattle.constraint.specs.File.{word as wordOf, target as targetOf};
-ghost use Rattle.constraint.specs.Tables.{tableWords, linesIn};
+ghost use Rattle.constraint.specs.Tables.{tableWords, lineIn, linesIn};
 ghost use Rattle.constraint.specs.Claims.{Each};
 ghost use Rattle.judge.specs.Judge.{judge, verdictsOf};
 ghost use Rattle.judge.specs.Unnamed.{unnamed, Fitting};
@@ -54,21 +57,22 @@ fn target(widths: &[u64; Edition::VARIABLES], n: usize, row: &[u64], o: Operand)
     }
 }
 
-// The verdict on a line that keeps its rules, and its result.
-pub fn judge_line(widths: &[u64; Edition::VARIABLES], n: usize, row: &[u64], line: Line) -> Judged
-    requires { ⌜ (n ≤ maxVariables) × Fitting (unnamed (now widths) n) (now row) line ⌝ }
-    ensures { λ r. ⌜ r ≡ judge (unnamed (now (widths .entry)) n) (now (row .entry)) line ⌝ }
+// The verdict on the line at place k of the table, which keeps its rules, and its result.
+pub fn judge_line<'a>(
+    widths: &'a [u64; Edition::VARIABLES],
+    n: usize,
+    row: &[u64],
+    lines: &'a [u64; TABLE_WORDS],
+    k: usize,
+) -> Judged
+    requires { ⌜ (n ≤ maxVariables) × (length (now lines) ≡ tableWords) × (k < maxLines) × Fitting (unnamed (now widths) n) (now row) (lineIn (now lines) k) ⌝ }
+    ensures { λ r. ⌜ r ≡ judge (unnamed (now (widths .entry)) n) (now (row .entry)) (lineIn (now (lines .entry)) k) ⌝ }
 {
-    let op = line.operator;
-    let output = line.output;
-    let operands = line.operands;
-    let first = operands.first;
-    let second = operands.second;
-    let third = operands.third;
-    let a = word(widths, n, row, first);
-    let b = word(widths, n, row, second);
-    let c = word(widths, n, row, third);
-    let goal = target(widths, n, row, output);
+    let op = operator_of(lines, k);
+    let a = word(widths, n, row, first_of(lines, k));
+    let b = word(widths, n, row, second_of(lines, k));
+    let c = word(widths, n, row, third_of(lines, k));
+    let goal = target(widths, n, row, output_of(lines, k));
     match evaluate(op, goal.width, a, b, c) {
         Applied::Value(result) => {
             if result == goal.value {
@@ -108,7 +112,7 @@ pub fn judge_all<'a>(
 {
     let mut i = 0;
     while i < m {
-        let judged = judge_line(widths, n, row, load_line(lines, i));
+        let judged = judge_line(widths, n, row, lines, i);
         verdicts[i] = judged.verdict;
         i += 1;
     }

@@ -141,20 +141,20 @@ module _ (widths : List ℕ) (n : ℕ) (table row : List ℕ) (i : ℕ) (before 
   turn-start = record { long = refl; made = refl; few = omega arith; counted = refl; fewer = omega arith; differed = refl }
 
   -- line k
-  module _ (verdicts : List ℕ) (named altered k : ℕ) (t : Turn widths n table row i before verdicts named altered k) (h : k < length before) (l : Line) (line : l ≡ lineIn table k) where
+  module _ (verdicts : List ℕ) (named altered k : ℕ) (t : Turn widths n table row i before verdicts named altered k) (h : k < length before) where
     still : getD verdicts k 0 ≡ getD before k 0
     still = rw (t .made) (not-yet widths n table row i before k h)
 
     pub turn-next : (r : Renewal) (after : List ℕ)
-        → r ≡ renewalOf (unnamed widths n) row i l (getD verdicts k 0)
-        → after ≡ set verdicts k (remade (unnamed widths n) row i l (getD verdicts k 0))
+        → r ≡ renewalOf (unnamed widths n) row i (lineIn table k) (getD verdicts k 0)
+        → after ≡ set verdicts k (remade (unnamed widths n) row i (lineIn table k) (getD verdicts k 0))
         → Turn widths n table row i before after (named + r .named) (altered + r .altered) (k + 1)
     turn-next r after e put =
-        let most = renewal-most (unnamed widths n) row i l (getD verdicts k 0) r e in
-        let one : r ≡ renewalOf (unnamed widths n) row i (lineIn table k) (getD before k 0) = rw (line, still) at e in
+        let most = renewal-most (unnamed widths n) row i (lineIn table k) (getD verdicts k 0) r e in
+        let one : r ≡ renewalOf (unnamed widths n) row i (lineIn table k) (getD before k 0) = rw still at e in
         record {
           long = rw put (length-set verdicts k _ ∙ t .long);
-          made = (rw (line, still, t .made) at put) ∙ renewed-put widths n table row i before k h;
+          made = (rw (still, t .made) at put) ∙ renewed-put widths n table row i before k h;
           few = omega arith;
           counted = omega (arith, ap (λ x. x .named) one, named-more table i k);
           fewer = omega arith;

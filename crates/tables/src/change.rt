@@ -4,12 +4,14 @@ use super::Effect;
 use super::Gate;
 use super::Renewal;
 use constraint::Found;
-use constraint::Line;
 use constraint::Operand;
 use constraint::Step;
 use constraint::reader::read;
 use constraint::tables::TABLE_WORDS;
-use constraint::tables::load_line;
+use constraint::tables::first_of;
+use constraint::tables::output_of;
+use constraint::tables::second_of;
+use constraint::tables::third_of;
 use edition::Edition;
 use judge::Judged;
 use judge::in_use::first_unfit;
@@ -29,7 +31,7 @@ ghost use lib.ListN.{length, getD, take, drop, set};
 ghost use Rattle.edition.specs.Edition.{maxVariables, maxLines};
 ghost use Rattle.refusal.specs.Lists.{firstFrom, howMany};
 ghost use Rattle.refusal.specs.Result.{refusal as refusalOf};
-ghost use Rattle.constraint.specs.Tables.{tableWords, linesIn};
+ghost use Rattle.constraint.specs.Tables.{tableWords, lineIn, linesIn};
 ghost use Rattle.constraint.specs.Claims.{Each};
 ghost use Rattle.constraint.specs.Answers.{place};
 ghost use Rattle.judge.specs.Judge.{disregarded};
@@ -60,16 +62,16 @@ fn is_variable(i: usize, o: Operand) -> bool
     }
 }
 
-// Whether a line names variable i, as output or operand.
-fn names(i: usize, line: Line) -> bool
-    ensures { λ r. ⌜ r ≡ namesIn i line ⌝ }
+// Whether the line at place k of the table names variable i, as output or operand.
+fn names(i: usize, lines: &[u64; TABLE_WORDS], k: usize) -> bool
+    requires { ⌜ (length (now lines) ≡ tableWords) × (k < maxLines) ⌝ }
+    ensures { λ r. ⌜ r ≡ namesIn i (lineIn (now (lines .entry)) k) ⌝ }
 {
-    let output = line.output;
-    let operands = line.operands;
-    let first = operands.first;
-    let second = operands.second;
-    let third = operands.third;
-    is_variable(i, output) | is_variable(i, first) | is_variable(i, second) | is_variable(i, third)
+    let a = is_variable(i, output_of(lines, k));
+    let b = is_variable(i, first_of(lines, k));
+    let c = is_variable(i, second_of(lines, k));
+    let d = is_variable(i, third_of(lines, k));
+    a | b | c | d
 }
 
 // 0 where two verdicts are the same, else 1.
@@ -131,22 +133,22 @@ fn gate(
     }
 }
 
-// Renews the verdict at k, of a line whose operands fit, where the line names variable i.
-fn renew_line(
-    widths: &[u64; Edition::VARIABLES],
+// Renews the verdict on the line at place k, which keeps its rules, where it names variable i.
+fn renew_line<'a>(
+    widths: &'a [u64; Edition::VARIABLES],
     n: usize,
     row: &[u64],
-    line: Line,
+    lines: &'a [u64; TABLE_WORDS],
     verdicts: &mut [u8],
     k: usize,
     i: usize,
 ) -> Renewal
-    requires { ⌜ (n ≤ maxVariables) × (k < length (now verdicts)) × Fitting (unnamed (now widths) n) (now row) line ⌝ }
-    ensures { λ r. ⌜ (r ≡ renewalOf (unnamed (now (widths .entry)) n) (now (row .entry)) i line (getD (now (verdicts .entry)) k 0)) × (now (verdicts .exit) ≡ set (now (verdicts .entry)) k (remade (unnamed (now (widths .entry)) n) (now (row .entry)) i line (getD (now (verdicts .entry)) k 0))) ⌝ }
+    requires { ⌜ (n ≤ maxVariables) × (k < length (now verdicts)) × (length (now lines) ≡ tableWords) × (k < maxLines) × Fitting (unnamed (now widths) n) (now row) (lineIn (now lines) k) ⌝ }
+    ensures { λ r. ⌜ (r ≡ renewalOf (unnamed (now (widths .entry)) n) (now (row .entry)) i (lineIn (now (lines .entry)) k) (getD (now (verdicts .entry)) k 0)) × (now (verdicts .exit) ≡ set (now (verdicts .entry)) k (remade (unnamed (now (widths .entry)) n) (now (row .entry)) i (lineIn (now (lines .entry)) k) (getD (now (verdicts .entry)) k 0))) ⌝ }
 {
-    if names(i, line) {
+    if names(i, lines, k) {
         let old = verdicts[k];
-        let judged = judge_line(widths, n, row, line);
+        let judged = judge_line(widths, n, row, lines, k);
         let new = judged.verdict;
         verdicts[k] = new;
         return Renewal {
@@ -177,8 +179,7 @@ fn renew<'a>(
     let mut altered = 0;
     let mut k = 0;
     while k < m {
-        let line = load_line(lines, k);
-        let one = renew_line(widths, n, row, line, verdicts, k, i);
+        let one = renew_line(widths, n, row, lines, verdicts, k, i);
         named += one.named;
         altered += one.altered;
         k += 1;

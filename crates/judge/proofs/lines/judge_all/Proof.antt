@@ -22,13 +22,10 @@ loop-holds : tie.Need-loop-holds Inv-loop μ-loop
 unfolding verdictsOf linesIn tabulate
 loop-holds c = (search needs, refl, refl)
 
-load-line-requires : tie.Need-load-line-requires Inv-loop μ-loop
-load-line-requires c κs = search needs
-
 judge-line-requires : tie.Need-judge-line-requires Inv-loop μ-loop
 judge-line-requires c κs =
-    let s = c .before .before .before .before .before in
-    (s .pre .0, rw (c .load-line .ensures) (each-line (Fitting _ _) _ _ _ (s .pre .4) (c .before .loop-test .taken)))
+    let s = c .before .before .before .before in
+    (s .pre .0, s .pre .2, omega arith, each-line (Fitting _ _) _ _ _ (s .pre .4) (c .loop-test .taken))
 
 slice-write-verdicts : tie.Need-slice-write-verdicts Inv-loop μ-loop
 slice-write-verdicts c = search needs
@@ -41,9 +38,9 @@ loop-less c = search needs
 
 loop-again : tie.Need-loop-again Inv-loop μ-loop
 loop-again c =
-    let l = c .before .before .before .loop in
-    let s = c .before .before .before .before .before .before in
-    (search needs, length-set (l .verdicts) _ _ ∙ l .inv .1, rw (c .judge-line .ensures, c .before .load-line .ensures, l .inv .2) (verdict-put _ _ _ (l .i) (s .args .verdicts .now) (omega arith)))
+    let l = c .before .before .loop in
+    let s = c .before .before .before .before .before in
+    (search needs, length-set (l .verdicts) _ _ ∙ l .inv .1, rw (c .judge-line .ensures, l .inv .2) (verdict-put _ _ _ (l .i) (s .args .verdicts .now) (omega arith)))
 
 same-length : tie.Need-same-length Inv-loop μ-loop
 same-length c = c .before .loop .inv .1
@@ -61,7 +58,6 @@ judge-all-spec =
     Inv-loop
     μ-loop
     loop-holds
-    load-line-requires
     judge-line-requires
     slice-write-verdicts
     add-i

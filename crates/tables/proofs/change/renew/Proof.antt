@@ -18,13 +18,10 @@ abbrev μ-loop : tie.MeasureT-loop
 loop-holds : tie.Need-loop-holds Inv-loop μ-loop
 loop-holds c = (search needs, turn-start _ _ _ _ _ _)
 
-load-line-requires : tie.Need-load-line-requires Inv-loop μ-loop
-load-line-requires c κs = search needs
-
 renew-line-requires : tie.Need-renew-line-requires Inv-loop μ-loop
 renew-line-requires c κs =
-    let s = c .before .before .before .before .before .before in
-    (s .pre .0, omega arith, rw (c .before .load-line .ensures) (each-line (Fitting _ _) _ _ _ (s .pre .4) (c .before .before .loop-test .taken)))
+    let s = c .before .before .before .before .before in
+    (s .pre .0, omega arith, s .pre .2, omega arith, each-line (Fitting _ _) _ _ _ (s .pre .4) (c .before .loop-test .taken))
 
 add-named : tie.Need-add-named Inv-loop μ-loop
 add-named c = let r = c .before .before .before .renew-line in omega (arith, renewal-most _ _ _ _ _ (r .result) (r .ensures .0))
@@ -41,7 +38,7 @@ loop-less c = search needs
 loop-again : tie.Need-loop-again Inv-loop μ-loop
 loop-again c =
     let r = c .before .before .before .before .renew-line in
-    (search needs, turn-next _ _ _ _ _ _ _ _ _ _ (c .before .before .before .before .before .before .before .before .loop .inv .1) (omega arith) _ (c .before .before .before .before .before .before .load-line .ensures) _ _ (r .ensures .0) (r .ensures .1))
+    (search needs, turn-next _ _ _ _ _ _ _ _ _ _ (c .before .before .before .before .before .before .before .loop .inv .1) (omega arith) _ _ (r .ensures .0) (r .ensures .1))
 
 same-length : tie.Need-same-length Inv-loop μ-loop
 same-length c = c .before .loop .inv .1 .long
@@ -59,7 +56,6 @@ renew-spec =
     Inv-loop
     μ-loop
     loop-holds
-    load-line-requires
     renew-line-requires
     add-named
     add-altered
