@@ -15,9 +15,9 @@ use Rattle.text.specs.Bytes.{isAllowed}
 use Rattle.text.specs.Lines.{TextLine, Token, arguments, leads}
 use Rattle.text.specs.Reading.{readAnyLine, readLines}
 use Rattle.constraint.specs.File.{Variable}
-use Rattle.constraint.specs.Claims.{Each}
-use Rattle.answer.specs.Words.{satisfiable}
-use Rattle.answer.specs.Read.{Settings, settings, readSettings, readSolution, readValues, readLine}
+use Rattle.constraint.specs.Sound.{Each}
+use Rattle.answer.specs.SolutionWords.{satisfiable}
+use Rattle.answer.specs.Read.{Settings, settingsOf, readSettings, readSolution, readValues, readAnswerLine}
 use Rattle.answer.specs.Claims.{letterOf}
 use Rattle.answer.proofs.SettingsListLaws.{settings-append}
 use Rattle.answer.proofs.SolutionLineLaws.{solution-is, solution-accepted}
@@ -53,7 +53,7 @@ all-v letter rest (suc n) e = (head-eq-of-cons-eq e, (n, tail-eq-of-cons-eq e))
 
 module _ (xs : List Variable) where
   abbrev readAll : Settings → List TextLine → Result Settings
-  readAll = readLines Answer (readLine xs)
+  readAll = readLines Answer (readAnswerLine xs)
 
   -- `v` lines have no token of an `s` line
   no-solution : (ls : List TextLine) (more : ℕ) → flatMap letterOf ls ≡ replicate more (code "v") → tokensIn (code "s") ls ≡ []
@@ -84,9 +84,9 @@ module _ (xs : List Variable) where
       unfolding readLines readAnyLine
       line-first s k = rw (a, k .read-is s)
 
-      line-values : (vs : List (Option ℕ)) → IsValues xs l → readAll (settings true vs) (l ∷ ls) ≡ (readSettings xs vs (arguments l) >>= λ us. readAll (settings true us) ls)
+      line-values : (vs : List (Option ℕ)) → IsValues xs l → readAll (settingsOf true vs) (l ∷ ls) ≡ (readSettings xs vs (arguments l) >>= λ us. readAll (settingsOf true us) ls)
       unfolding readValues
-      line-values vs k = line-first (settings true vs) k ∙ sym (bind-through (λ us. accepted (settings true us)) (λ t. readAll t ls) (λ us. readAll (settings true us) ls) (λ us. refl) (readSettings xs vs (arguments l)))
+      line-values vs k = line-first (settingsOf true vs) k ∙ sym (bind-through (λ us. accepted (settingsOf true us)) (λ t. readAll t ls) (λ us. readAll (settingsOf true us) ls) (λ us. refl) (readSettings xs vs (arguments l)))
 
       -- what is said of the lines, from those behind it
       module _ (vs us : List (Option ℕ)) where
@@ -118,24 +118,24 @@ module _ (xs : List Variable) where
         }
 
   -- ---- lines behind the `s` line: what is accepted of them, and that they are
-  behind-are : (ls : List TextLine) (vs : List (Option ℕ)) (s : Settings) → readAll (settings true vs) ls ≡ accepted s → (s .solved ≡ true) × BehindSolution xs vs (s .values) ls
+  behind-are : (ls : List TextLine) (vs : List (Option ℕ)) (s : Settings) → readAll (settingsOf true vs) ls ≡ accepted s → (s .solved ≡ true) × BehindSolution xs vs (s .values) ls
   unfolding readLines readSolution readSettings tokensIn flatMap
   behind-are [] vs s e = subst (λ (u : Settings). (u .solved ≡ true) × BehindSolution xs vs (u .values) []) (cc e) (refl, record { allowed = tt; more = 0; in-order = refl; sets = refl })
   behind-are (l ∷ ls) vs s e = go (line-kind xs l) (behind-are ls)
     where
       a : IsAllowed l
-      a = line-allowed l ls (settings true vs) s e
+      a = line-allowed l ls (settingsOf true vs) s e
 
-      go : LineKind xs l → ((us : List (Option ℕ)) (u : Settings) → readAll (settings true us) ls ≡ accepted u → (u .solved ≡ true) × BehindSolution xs us (u .values) ls) → (s .solved ≡ true) × BehindSolution xs vs (s .values) (l ∷ ls)
-      go (skipped k) ih = let p = ih vs s (sym (line-first l ls a (settings true vs) k) ∙ e) in (p .0, behind-skipped l ls a vs (s .values) k (p .1))
-      go (solution k) ih = never (cc (sym (line-first l ls a (settings true vs) k) ∙ e))
+      go : LineKind xs l → ((us : List (Option ℕ)) (u : Settings) → readAll (settingsOf true us) ls ≡ accepted u → (u .solved ≡ true) × BehindSolution xs us (u .values) ls) → (s .solved ≡ true) × BehindSolution xs vs (s .values) (l ∷ ls)
+      go (skipped k) ih = let p = ih vs s (sym (line-first l ls a (settingsOf true vs) k) ∙ e) in (p .0, behind-skipped l ls a vs (s .values) k (p .1))
+      go (solution k) ih = never (cc (sym (line-first l ls a (settingsOf true vs) k) ∙ e))
       go (values k) ih =
           let p = bind-accepted (readSettings xs vs (arguments l)) _ s (sym (line-values l ls a vs k) ∙ e) in
           let q = ih (p .0) s (p .2) in
           (q .0, behind-values l ls a vs (s .values) (p .0) k (p .1) (q .1))
-      go (other k) ih = never (cc (sym (line-first l ls a (settings true vs) k) ∙ e))
+      go (other k) ih = never (cc (sym (line-first l ls a (settingsOf true vs) k) ∙ e))
 
-  behind-accepted : (ls : List TextLine) (vs us : List (Option ℕ)) → BehindSolution xs vs us ls → readAll (settings true vs) ls ≡ accepted (settings true us)
+  behind-accepted : (ls : List TextLine) (vs us : List (Option ℕ)) → BehindSolution xs vs us ls → readAll (settingsOf true vs) ls ≡ accepted (settingsOf true us)
   unfolding readLines readSettings tokensIn flatMap
   behind-accepted [] vs us h = let z : vs ≡ us = cc (h .sets) in rw z
   behind-accepted (l ∷ ls) vs us h = go (line-kind xs l) (behind-accepted ls)
@@ -143,8 +143,8 @@ module _ (xs : List Variable) where
       a : IsAllowed l
       a = h .allowed .0
 
-      go : LineKind xs l → ((ws ys : List (Option ℕ)) → BehindSolution xs ws ys ls → readAll (settings true ws) ls ≡ accepted (settings true ys)) → readAll (settings true vs) (l ∷ ls) ≡ accepted (settings true us)
-      go (skipped k) ih = line-first l ls a (settings true vs) k ∙ ih vs us (record { allowed = h .allowed .1; more = h .more; in-order = rw (k .letter-is) at (h .in-order); sets = rw (k .sets-is) at (h .sets) })
+      go : LineKind xs l → ((ws ys : List (Option ℕ)) → BehindSolution xs ws ys ls → readAll (settingsOf true ws) ls ≡ accepted (settingsOf true ys)) → readAll (settingsOf true vs) (l ∷ ls) ≡ accepted (settingsOf true us)
+      go (skipped k) ih = line-first l ls a (settingsOf true vs) k ∙ ih vs us (record { allowed = h .allowed .1; more = h .more; in-order = rw (k .letter-is) at (h .in-order); sets = rw (k .sets-is) at (h .sets) })
       go (solution k) ih = absurd (omega (arith, all-v (code "s") _ (h .more) (rw (k .letter-is) at (h .in-order)) .0))
       go (values k) ih =
           let p = all-v (code "v") _ (h .more) (rw (k .letter-is) at (h .in-order)) .1 in
@@ -153,24 +153,24 @@ module _ (xs : List Variable) where
       go (other k) ih = absurd (omega (arith, all-v 0 _ (h .more) (rw (k .letter-is) at (h .in-order)) .0))
 
   -- ---- lines with the `s` line: what is accepted of them, and that they are
-  pub lines-are : (ls : List TextLine) (vs : List (Option ℕ)) (s : Settings) → readLines Answer (readLine xs) (settings false vs) ls ≡ accepted s → s .solved ≡ true → WithSolution xs vs (s .values) ls
+  pub lines-are : (ls : List TextLine) (vs : List (Option ℕ)) (s : Settings) → readLines Answer (readAnswerLine xs) (settingsOf false vs) ls ≡ accepted s → s .solved ≡ true → WithSolution xs vs (s .values) ls
   unfolding readLines readValues
   lines-are [] vs s e d = never (cc (e, d))
   lines-are (l ∷ ls) vs s e d = go (line-kind xs l) (lines-are ls vs s)
     where
       a : IsAllowed l
-      a = line-allowed l ls (settings false vs) s e
+      a = line-allowed l ls (settingsOf false vs) s e
 
-      go : LineKind xs l → (readAll (settings false vs) ls ≡ accepted s → s .solved ≡ true → WithSolution xs vs (s .values) ls) → WithSolution xs vs (s .values) (l ∷ ls)
-      go (skipped k) ih = with-skipped l ls a vs (s .values) k (ih (sym (line-first l ls a (settings false vs) k) ∙ e) d)
+      go : LineKind xs l → (readAll (settingsOf false vs) ls ≡ accepted s → s .solved ≡ true → WithSolution xs vs (s .values) ls) → WithSolution xs vs (s .values) (l ∷ ls)
+      go (skipped k) ih = with-skipped l ls a vs (s .values) k (ih (sym (line-first l ls a (settingsOf false vs) k) ∙ e) d)
       go (solution k) ih =
-          let p = bind-accepted (readSolution (settings false vs) l) _ s (sym (line-first l ls a (settings false vs) k) ∙ e) in
+          let p = bind-accepted (readSolution (settingsOf false vs) l) _ s (sym (line-first l ls a (settingsOf false vs) k) ∙ e) in
           let q = solution-is vs l (p .0) (p .1) in
           with-solution l ls a vs (s .values) k (q .0) (behind-are ls vs s (rw (q .1) at (p .2)) .1)
-      go (values k) ih = never (cc (sym (line-first l ls a (settings false vs) k) ∙ e))
-      go (other k) ih = never (cc (sym (line-first l ls a (settings false vs) k) ∙ e))
+      go (values k) ih = never (cc (sym (line-first l ls a (settingsOf false vs) k) ∙ e))
+      go (other k) ih = never (cc (sym (line-first l ls a (settingsOf false vs) k) ∙ e))
 
-  pub lines-accepted : (ls : List TextLine) (vs us : List (Option ℕ)) → WithSolution xs vs us ls → readLines Answer (readLine xs) (settings false vs) ls ≡ accepted (settings true us)
+  pub lines-accepted : (ls : List TextLine) (vs us : List (Option ℕ)) → WithSolution xs vs us ls → readLines Answer (readAnswerLine xs) (settingsOf false vs) ls ≡ accepted (settingsOf true us)
   unfolding tokensIn flatMap
   lines-accepted [] vs us h = absurd (nil≢cons (h .in-order))
   lines-accepted (l ∷ ls) vs us h = go (line-kind xs l) (lines-accepted ls vs us)
@@ -178,11 +178,11 @@ module _ (xs : List Variable) where
       a : IsAllowed l
       a = h .allowed .0
 
-      go : LineKind xs l → (WithSolution xs vs us ls → readAll (settings false vs) ls ≡ accepted (settings true us)) → readAll (settings false vs) (l ∷ ls) ≡ accepted (settings true us)
-      go (skipped k) ih = line-first l ls a (settings false vs) k ∙ ih (record { allowed = h .allowed .1; more = h .more; in-order = rw (k .letter-is) at (h .in-order); says = rw (k .says-is) at (h .says); sets = rw (k .sets-is) at (h .sets) })
+      go : LineKind xs l → (WithSolution xs vs us ls → readAll (settingsOf false vs) ls ≡ accepted (settingsOf true us)) → readAll (settingsOf false vs) (l ∷ ls) ≡ accepted (settingsOf true us)
+      go (skipped k) ih = line-first l ls a (settingsOf false vs) k ∙ ih (record { allowed = h .allowed .1; more = h .more; in-order = rw (k .letter-is) at (h .in-order); says = rw (k .says-is) at (h .says); sets = rw (k .sets-is) at (h .sets) })
       go (solution k) ih =
           let in-order = tail-eq-of-cons-eq (rw (k .letter-is) at (h .in-order)) in
           let says = rw (k .says-is, no-solution ls (h .more) in-order, append-nil) at (h .says) in
-          line-first l ls a (settings false vs) k ∙ rw (solution-accepted vs l says) (behind-accepted ls vs us (record { allowed = h .allowed .1; more = h .more; in-order = in-order; sets = rw (k .sets-is) at (h .sets) }))
+          line-first l ls a (settingsOf false vs) k ∙ rw (solution-accepted vs l says) (behind-accepted ls vs us (record { allowed = h .allowed .1; more = h .more; in-order = in-order; sets = rw (k .sets-is) at (h .sets) }))
       go (values k) ih = let z = head-eq-of-cons-eq (rw (k .letter-is) at (h .in-order)) in absurd (omega arith)
       go (other k) ih = let z = head-eq-of-cons-eq (rw (k .letter-is) at (h .in-order)) in absurd (omega arith)

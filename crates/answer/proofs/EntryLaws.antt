@@ -12,10 +12,10 @@ use lib.Seq.{take-suc, getD-set-same, getD-set-other, ext-getD}
 use borrow.Author.Tests.{eq-eqb, ne-eqb}
 use Rattle.refusal.specs.Lists.{isThere}
 use Rattle.refusal.proofs.ResultLaws.{never}
-use Rattle.constraint.specs.Tables.{tabulate}
-use Rattle.constraint.proofs.TableLaws.{length-tabulate, getD-tabulate}
+use Rattle.store.specs.Tables.{tabulate}
+use Rattle.store.proofs.TableLaws.{length-tabulate, getD-tabulate}
 use Rattle.answer.specs.Read.{allSet}
-use Rattle.answer.specs.Answers.{entryIn, entriesIn}
+use Rattle.answer.specs.Internal.{entryIn, entriesIn}
 
 -- ---- the entries
 module _ (flags values : List ℕ) (n : ℕ) where

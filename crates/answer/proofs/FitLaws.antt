@@ -11,7 +11,7 @@ use Rattle.text.specs.Bytes.{same}
 use Rattle.text.specs.Lines.{Token}
 use Rattle.text.specs.Spelling.{decimal}
 use Rattle.constraint.specs.File.{Variable, nameAt, widthAt}
-use Rattle.constraint.specs.Claims.{Each, SoundVariable, Distinct}
+use Rattle.constraint.specs.Sound.{Each, SoundVariable, Distinct}
 use Rattle.judge.specs.Claims.{RowFits}
 use Rattle.judge.proofs.FitLaws.{fits-none}
 use Rattle.answer.specs.Read.{readAnswer}

@@ -15,3 +15,4 @@ pub mod AcceptedLinesLaws
 pub mod OnceLaws
 pub mod AcceptsLaws
 pub mod FitLaws
+pub mod AnswerRefusesLaws

@@ -16,7 +16,7 @@ use Rattle.refusal.proofs.BoolLaws.{and-true, fails}
 use Rattle.text.specs.Bytes.{isSpace}
 use Rattle.text.specs.Lines.{TextLine, Token, arguments, leads}
 use Rattle.constraint.specs.File.{Variable}
-use Rattle.answer.specs.Read.{Settings, atStart, readSolution, readValues, kindOf, readAs, readLine}
+use Rattle.answer.specs.Read.{Settings, atAnswerLine, readSolution, readValues, answerKind, readAnswerAs, readAnswerLine}
 use Rattle.answer.specs.Claims.{letterOf}
 
 -- a line that a letter leads starts with it
@@ -42,7 +42,7 @@ pub record IsLine (xs : List Variable) (l : TextLine) (letter : List ℕ) (says 
   pub letter-is : letterOf l ≡ letter
   pub says-is : cond (leads (code "s") (l .bytes)) (arguments l) [] ≡ says
   pub sets-is : cond (leads (code "v") (l .bytes)) (arguments l) [] ≡ sets
-  pub read-is : (s : Settings) → cond (every isSpace (l .bytes)) (accepted s) (readLine xs s l) ≡ read s
+  pub read-is : (s : Settings) → cond (every isSpace (l .bytes)) (accepted s) (readAnswerLine xs s l) ≡ read s
 
 -- the kinds: blank or a comment, an `s` line, a `v` line, and of no kind
 abbrev pub IsSkipped : List Variable → TextLine → Type 0
@@ -55,7 +55,7 @@ abbrev pub IsValues : List Variable → TextLine → Type 0
 IsValues xs l = IsLine xs l (code "v" ∷ []) [] (arguments l) (λ s. readValues xs s l)
 
 abbrev pub IsOther : List Variable → TextLine → Type 0
-IsOther xs l = IsLine xs l (0 ∷ []) [] [] (λ s. refused (atStart l unknownLine))
+IsOther xs l = IsLine xs l (0 ∷ []) [] [] (λ s. refused (atAnswerLine l unknownLine))
 
 pub data LineKind (xs : List Variable) (l : TextLine) : Type 0 where
   skipped : IsSkipped xs l → LineKind xs l
@@ -65,7 +65,7 @@ pub data LineKind (xs : List Variable) (l : TextLine) : Type 0 where
 
 -- every line is of one kind
 pub line-kind : (xs : List Variable) (l : TextLine) → LineKind xs l
-unfolding letterOf readLine kindOf readAs isSpace
+unfolding letterOf readAnswerLine answerKind readAnswerAs isSpace
 line-kind xs l = go (every isSpace (l .bytes)) refl (leads (code "c") (l .bytes)) refl (leads (code "s") (l .bytes)) refl (leads (code "v") (l .bytes)) refl
   where
     go : (blank : Bool) → every isSpace (l .bytes) ≡ blank → (c : Bool) → leads (code "c") (l .bytes) ≡ c → (s : Bool) → leads (code "s") (l .bytes) ≡ s → (v : Bool) → leads (code "v") (l .bytes) ≡ v → LineKind xs l

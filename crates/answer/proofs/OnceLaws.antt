@@ -10,7 +10,7 @@ use Rattle.refusal.specs.Result.{accepted}
 use Rattle.refusal.proofs.ResultLaws.{never}
 use Rattle.text.specs.Lines.{Token}
 use Rattle.constraint.specs.File.{Variable, nameAt}
-use Rattle.constraint.specs.Claims.{Each, SoundVariable, Distinct}
+use Rattle.constraint.specs.Sound.{Each, SoundVariable, Distinct}
 use Rattle.answer.specs.Read.{readSettings, allSet}
 use Rattle.answer.specs.Claims.{IsSetting}
 use Rattle.answer.proofs.SettingsListLaws.{valuesIn, settings-are, settings-accepted}

@@ -19,14 +19,14 @@ use Rattle.text.specs.declared.Number.{Number}
 use Rattle.text.specs.declared.Number.the-variants.{Value, TooBig, Misspelt}
 use Rattle.text.specs.Lines.{Token}
 use Rattle.text.specs.Spelling.{isName, isNumeral, decimal, maxDigits, numberBound, upTo, behind}
-use Rattle.text.specs.Scan.{isOf, past, numberOf}
+use Rattle.text.specs.Scan.{isOf, past, numberRead}
 use Rattle.text.proofs.TokenLaws.{up-to, behind-it}
 use Rattle.constraint.specs.File.{Variable, widthAt, variableNamed}
-use Rattle.constraint.specs.Answers.{tokenAt}
+use Rattle.text.specs.Scan.{tokenAt}
 use Rattle.answer.specs.declared.Setting.{Setting}
 use Rattle.answer.specs.declared.Setting.the-variants.{Set, Faulty}
-use Rattle.answer.specs.Read.{at, settingOf}
-use Rattle.answer.specs.Answers.{settingResult, fitting, settingNamed}
+use Rattle.answer.specs.Read.{inAnswer, settingOf}
+use Rattle.answer.specs.Internal.{settingResult, settingIfFits, settingNamed}
 
 -- a variable that is found is one of the variables
 pub found-below : (name : List ℕ) (xs : List Variable) (i n : ℕ) → length xs ≡ n → some i ≡ variableNamed name xs → i < n
@@ -62,17 +62,17 @@ settingBy true (Value v) named = named v
 
 -- the tests, whatever they say
 fit-split : (t : Token) (i v : ℕ) (fit : Bool) → settingResult t (cond fit (Set i v) (Faulty valueDoesNotFit)) ≡ (do
-  ensure fit (at t valueDoesNotFit)
+  ensure fit (inAnswer t valueDoesNotFit)
   accepted (i, v))
 fit-split t i v true = refl
 fit-split t i v false = refl
 
-setting-split : (xs : List Variable) (t : Token) (v : ℕ) (found : Option ℕ) (named numeral below short : Bool) → settingResult t (settingBy named (cond numeral (cond below (Value v) TooBig) Misspelt) (λ v. cond short (fitting xs v found) (Faulty overLimit))) ≡ (do
-  ensure (named && numeral) (at t misspelt)
-  ensure below (at t numberTooLarge)
-  ensure short (at t overLimit)
-  i ← given found (at t notDeclared)
-  ensure (ltb v (2 ^ widthAt xs i)) (at t valueDoesNotFit)
+setting-split : (xs : List Variable) (t : Token) (v : ℕ) (found : Option ℕ) (named numeral below short : Bool) → settingResult t (settingBy named (cond numeral (cond below (Value v) TooBig) Misspelt) (λ v. cond short (settingIfFits xs v found) (Faulty overLimit))) ≡ (do
+  ensure (named && numeral) (inAnswer t misspelt)
+  ensure below (inAnswer t numberTooLarge)
+  ensure short (inAnswer t overLimit)
+  i ← given found (inAnswer t notDeclared)
+  ensure (ltb v (2 ^ widthAt xs i)) (inAnswer t valueDoesNotFit)
   accepted (i, v))
 setting-split xs t v found false numeral below short = refl
 setting-split xs t v found true false below short = refl
@@ -81,8 +81,8 @@ setting-split xs t v found true true true false = refl
 setting-split xs t v none true true true true = refl
 setting-split xs t v (some i) true true true true = fit-split t i v (ltb v (2 ^ widthAt xs i))
 
-setting-is : (xs : List Variable) (t : Token) → settingResult t (settingBy (isName (upTo (code "=") (t .bytes))) (numberOf maxDigits (behind (code "=") (t .bytes))) (settingNamed xs (upTo (code "=") (t .bytes)))) ≡ settingOf xs t
-unfolding settingOf numberOf settingNamed
+setting-is : (xs : List Variable) (t : Token) → settingResult t (settingBy (isName (upTo (code "=") (t .bytes))) (numberRead maxDigits (behind (code "=") (t .bytes))) (settingNamed xs (upTo (code "=") (t .bytes)))) ≡ settingOf xs t
+unfolding settingOf numberRead settingNamed
 setting-is xs t =
     let name = upTo (code "=") (t .bytes) in
     let number = behind (code "=") (t .bytes) in
@@ -90,5 +90,5 @@ setting-is xs t =
 
 -- the same at a place of a text, whose `=` a scan finds
 module _ (xs : List Variable) (text : List ℕ) (start equals : ℕ) (h : start ≤ length text) (found : equals ≡ past (isOf (Until (code "="))) text start) where
-  pub setting-by : (named : Bool) → named ≡ isName (drop start (take equals text)) → (number : Number) → number ≡ numberOf maxDigits (drop (equals + 1) text) → settingResult (tokenAt text start) (settingBy named number (settingNamed xs (drop start (take equals text)))) ≡ settingOf xs (tokenAt text start)
+  pub setting-by : (named : Bool) → named ≡ isName (drop start (take equals text)) → (number : Number) → number ≡ numberRead maxDigits (drop (equals + 1) text) → settingResult (tokenAt text start) (settingBy named number (settingNamed xs (drop start (take equals text)))) ≡ settingOf xs (tokenAt text start)
   setting-by named p number q = rw (p, q, ← up-to text start (code "=") equals h found, ← behind-it text start (code "=") equals h found) (setting-is xs (tokenAt text start))

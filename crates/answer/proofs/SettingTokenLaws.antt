@@ -19,7 +19,7 @@ use Rattle.text.specs.Bytes.{isDigit}
 use Rattle.text.specs.Lines.{Token}
 use Rattle.text.specs.Spelling.{isName, isNumeral, decimal, maxDigits, numberBound, upTo, behind}
 use Rattle.constraint.specs.File.{Variable, variableNamed, variableAt, nameAt, widthAt}
-use Rattle.constraint.specs.Claims.{Each, SoundVariable, Distinct}
+use Rattle.constraint.specs.Sound.{Each, SoundVariable, Distinct}
 use Rattle.constraint.proofs.VariableLaws.{variable-within}
 use Rattle.answer.specs.Read.{settingOf}
 use Rattle.answer.specs.Claims.{IsSetting}

@@ -20,7 +20,7 @@ use Rattle.text.specs.Lines.{Token}
 use Rattle.text.specs.Spelling.{decimal, upTo, behind}
 use Rattle.text.proofs.NameLaws.{same-self, same-false}
 use Rattle.constraint.specs.File.{Variable, nameAt}
-use Rattle.constraint.specs.Claims.{Each, SoundVariable, Distinct}
+use Rattle.constraint.specs.Sound.{Each, SoundVariable, Distinct}
 use Rattle.answer.specs.Read.{readSetting, readSettings}
 use Rattle.answer.specs.Claims.{IsSetting}
 use Rattle.answer.proofs.NamedLaws.{same-number}

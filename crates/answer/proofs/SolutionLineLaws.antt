@@ -9,8 +9,8 @@ use Rattle.refusal.proofs.ResultLaws.{never, Yields, yields-accepted, yields-re
 use Rattle.text.specs.Bytes.{same}
 use Rattle.text.specs.Lines.{TextLine, Token, arguments}
 use Rattle.answer.specs.declared.Solution.the-variants.{Satisfiable, Otherwise, NoWord}
-use Rattle.answer.specs.Words.{satisfiable, unsatisfiable, unknown}
-use Rattle.answer.specs.Read.{Settings, settings, solutionOf, readWord, readSolution}
+use Rattle.answer.specs.SolutionWords.{satisfiable, unsatisfiable, unknown}
+use Rattle.answer.specs.Read.{Settings, settingsOf, solutionOf, readWord, readSolution}
 use Rattle.text.proofs.NameLaws.{same-true}
 
 -- the bytes of tokens
@@ -29,21 +29,21 @@ yields-word {Q} t {next} n = go (same satisfiable (t .bytes)) refl (same unsatis
 
 module _ (vs : List (Option ℕ)) (l : TextLine) where
   -- what is accepted says so
-  solution-yields : (ts : List Token) → arguments l ≡ ts → Yields (λ u. (words ts ≡ satisfiable ∷ []) × (u ≡ settings true vs)) (readSolution (settings false vs) l)
+  solution-yields : (ts : List Token) → arguments l ≡ ts → Yields (λ u. (words ts ≡ satisfiable ∷ []) × (u ≡ settingsOf true vs)) (readSolution (settingsOf false vs) l)
   unfolding readSolution
   solution-yields [] e = rw e yields-refused
   solution-yields (t ∷ []) e = rw e (yields-word t λ k. yields-accepted (rw k, refl))
   solution-yields (t ∷ d ∷ ts) e = rw e (yields-word t λ k. yields-refused)
 
-  pub solution-is : (u : Settings) → readSolution (settings false vs) l ≡ accepted u → (words (arguments l) ≡ satisfiable ∷ []) × (u ≡ settings true vs)
+  pub solution-is : (u : Settings) → readSolution (settingsOf false vs) l ≡ accepted u → (words (arguments l) ≡ satisfiable ∷ []) × (u ≡ settingsOf true vs)
   solution-is u = solution-yields (arguments l) refl .holds u
 
   -- what says so is accepted
-  taken : (ts : List Token) → arguments l ≡ ts → words ts ≡ satisfiable ∷ [] → readSolution (settings false vs) l ≡ accepted (settings true vs)
+  taken : (ts : List Token) → arguments l ≡ ts → words ts ≡ satisfiable ∷ [] → readSolution (settingsOf false vs) l ≡ accepted (settingsOf true vs)
   unfolding readSolution readWord solutionOf same
   taken [] e q = never (cc q)
   taken (t ∷ []) e q = rw (e, head-eq-of-cons-eq q)
   taken (t ∷ d ∷ ts) e q = never (cc q)
 
-  pub solution-accepted : words (arguments l) ≡ satisfiable ∷ [] → readSolution (settings false vs) l ≡ accepted (settings true vs)
+  pub solution-accepted : words (arguments l) ≡ satisfiable ∷ [] → readSolution (settingsOf false vs) l ≡ accepted (settingsOf true vs)
   solution-accepted = taken (arguments l) refl

@@ -13,16 +13,16 @@ use Rattle.refusal.specs.Numbers.{misplacedLine, setTwice}
 use Rattle.refusal.specs.Result.{accepted, refused, refusal}
 use Rattle.text.specs.Lines.{Token, tokensFrom}
 use Rattle.constraint.specs.File.{Variable}
-use Rattle.constraint.specs.Answers.{lineAt}
-use Rattle.constraint.proofs.HeaderLaws.{arguments-at}
-use Rattle.answer.specs.Read.{settings, settingOf, readSetting, readSettings, readValues}
-use Rattle.answer.specs.Answers.{entriesIn, Whole}
+use Rattle.text.specs.Scan.{lineAt}
+use Rattle.text.proofs.TokenLaws.{arguments-at}
+use Rattle.answer.specs.Read.{settingsOf, settingOf, readSetting, readSettings, readValues}
+use Rattle.answer.specs.Internal.{entriesIn, SettingsSized}
 use Rattle.answer.proofs.EntryLaws.{entry-free, entry-taken, entries-set}
 
 -- ---- the loop: what is left to set, from what is set, is what there was to set
 pub record Storing (xs : List Variable) (n : ℕ) (line : List ℕ) (at : ℕ) (flags₀ values₀ flags values : List ℕ) (i : ℕ) : Type 0 where
   pub within : i ≤ length line
-  pub whole : Whole flags values
+  pub whole : SettingsSized flags values
   pub rest : readSettings xs (entriesIn flags values n) (tokensFrom true i (drop i line)) ≡ readSettings xs (entriesIn flags₀ values₀ n) (tokensFrom true at (drop at line))
 
 module _ {xs : List Variable} {n : ℕ} {line : List ℕ} {at : ℕ} {flags₀ values₀ flags values : List ℕ} {i : ℕ} (inv : Storing xs n line at flags₀ values₀ flags values i) where
@@ -52,15 +52,15 @@ module _ {xs : List Variable} {n : ℕ} {line : List ℕ} {at : ℕ} {flags₀ v
 
 -- ---- a line by what its settings give
 module _ (xs : List Variable) (solved : Bool) (vs : List (Option ℕ)) (line : List ℕ) (at next : ℕ) where
-  pub values-misplaced : solved ≡ false → refused (refusal Answer misplacedLine at) ≡ readValues xs (settings solved vs) (lineAt line at next)
+  pub values-misplaced : solved ≡ false → refused (refusal Answer misplacedLine at) ≡ readValues xs (settingsOf solved vs) (lineAt line at next)
   unfolding readValues
   values-misplaced e = rw e
 
   module _ (e : solved ≡ true) where
-    pub values-refused : (r : Refusal) → refused r ≡ readSettings xs vs (tokensFrom true (at + 1) (drop (at + 1) line)) → refused r ≡ readValues xs (settings solved vs) (lineAt line at next)
+    pub values-refused : (r : Refusal) → refused r ≡ readSettings xs vs (tokensFrom true (at + 1) (drop (at + 1) line)) → refused r ≡ readValues xs (settingsOf solved vs) (lineAt line at next)
     unfolding readValues
     values-refused r f = rw (e, arguments-at line at next, ← f)
 
-    pub values-read : (us : List (Option ℕ)) → accepted us ≡ readSettings xs vs (tokensFrom true (at + 1) (drop (at + 1) line)) → accepted (settings true us) ≡ readValues xs (settings solved vs) (lineAt line at next)
+    pub values-read : (us : List (Option ℕ)) → accepted us ≡ readSettings xs vs (tokensFrom true (at + 1) (drop (at + 1) line)) → accepted (settingsOf true us) ≡ readValues xs (settingsOf solved vs) (lineAt line at next)
     unfolding readValues
     values-read us f = rw (e, arguments-at line at next, ← f)

@@ -1,15 +1,15 @@
 // Answer files: reading one into a lent table of values.
-use constraint::tables::TABLE_WORDS;
 use edition::Edition;
-use reader::read_answer;
+use reading::read_answer;
 use refusal::Refusal;
 use refusal::Subject;
 use rows::store_row;
+use store::lines::TABLE_WORDS;
 ghost use mathlib.Core.Path.{_≡_};
 ghost use Rattle.answer.specs.Call.{readOutcome};
 
 pub mod claims;
-pub mod reader;
+pub mod reading;
 pub mod rows;
 mod settings;
 mod solutions;
@@ -24,7 +24,7 @@ pub enum Solution {
 }
 
 // The kind of a line that is not blank.
-pub enum Kind {
+pub enum AnswerLine {
     OfComment,
     OfSolution,
     OfValues,
@@ -38,7 +38,7 @@ pub enum Setting {
 }
 
 // After a line: whether the `s` line was read.
-pub enum Step {
+pub enum AnswerProgress {
     Next(bool),
     Stop(Refusal),
 }
@@ -62,9 +62,9 @@ pub fn read(constraint: &[u8], answer: &[u8], values: &mut [u64]) -> ReadReply
     let mut lens = [0usize; Edition::VARIABLES];
     let mut widths = [0u64; Edition::VARIABLES];
     let mut lines = [0u64; TABLE_WORDS];
-    match constraint::reader::read(constraint, &mut starts, &mut lens, &mut widths, &mut lines) {
-        constraint::Step::Stop(r) => ReadReply::Refused(r),
-        constraint::Step::Next(p) => {
+    match reader::reading::read(constraint, &mut starts, &mut lens, &mut widths, &mut lines) {
+        store::Step::Stop(r) => ReadReply::Refused(r),
+        store::Step::Next(p) => {
             let n = p.variables;
             let mut row = [0u64; Edition::VARIABLES];
             match read_answer(constraint, &starts, &lens, &widths, n, answer, &mut row) {

@@ -1,17 +1,18 @@
 // The `v` lines.
+use super::AnswerProgress;
 use super::Setting;
-use super::Step;
 use super::solutions::refusal;
-use constraint::Found;
-use constraint::names::lookup;
-use constraint::typing::width_of;
+use arithmetic::Word;
+use arithmetic::rules::fits;
 use edition::Edition;
-use operator::Word;
-use operator::rules::fits;
 use refusal::Refusal;
+use store::Found;
+use store::names::lookup;
+use store::widths::width_of;
 use text::Class;
 use text::Next;
 use text::Number;
+use text::numbers::MAX_DIGITS;
 use text::numbers::number_behind;
 use text::scan::is_name;
 use text::scan::next_token;
@@ -22,13 +23,10 @@ ghost use Prim.Native.Nat.{ℕ, _<_, _≤_};
 ghost use lib.ListN.{length, drop};
 ghost use Rattle.edition.specs.Edition.{maxVariables};
 ghost use Rattle.text.specs.Lines.{tokensFrom};
-ghost use Rattle.constraint.specs.Tables.{variablesIn};
-ghost use Rattle.constraint.specs.Answers.{tokenAt, lineAt};
-ghost use Rattle.answer.specs.Read.{settings, settingOf, readSettings, readValues};
-ghost use Rattle.answer.specs.Answers.{settingResult, settingNamed, SettingIn, entriesIn, Whole, stepResult, settingsResult};
-
-// The digits of a value, at most.
-const MAX_DIGITS: usize = 20;
+ghost use Rattle.store.specs.Tables.{variablesIn};
+ghost use Rattle.text.specs.Scan.{tokenAt, lineAt};
+ghost use Rattle.answer.specs.Read.{settingsOf, settingOf, readSettings, readValues};
+ghost use Rattle.answer.specs.Internal.{settingResult, settingNamed, SettingIn, entriesIn, SettingsSized, answerStep, settingsResult};
 
 // The setting of the variable named from `at` to the end of the text, to the value v.
 fn setting_of<'a>(
@@ -97,26 +95,26 @@ fn set_all<'a>(
     at: usize,
     flags: &mut [u8; Edition::VARIABLES],
     values: &mut [u64; Edition::VARIABLES],
-) -> Step
-    requires { ⌜ (at ≤ length (now line)) × (n ≤ maxVariables) × Whole (now flags) (now values) ⌝ }
-    ensures { λ r. ⌜ (settingsResult (entriesIn (now (flags .exit)) (now (values .exit)) n) r ≡ readSettings (variablesIn (now (file .entry)) (now (starts .entry)) (now (lens .entry)) (now (widths .entry)) n) (entriesIn (now (flags .entry)) (now (values .entry)) n) (tokensFrom true at (drop at (now (line .entry))))) × Whole (now (flags .exit)) (now (values .exit)) ⌝ }
+) -> AnswerProgress
+    requires { ⌜ (at ≤ length (now line)) × (n ≤ maxVariables) × SettingsSized (now flags) (now values) ⌝ }
+    ensures { λ r. ⌜ (settingsResult (entriesIn (now (flags .exit)) (now (values .exit)) n) r ≡ readSettings (variablesIn (now (file .entry)) (now (starts .entry)) (now (lens .entry)) (now (widths .entry)) n) (entriesIn (now (flags .entry)) (now (values .entry)) n) (tokensFrom true at (drop at (now (line .entry))))) × SettingsSized (now (flags .exit)) (now (values .exit)) ⌝ }
 {
     let mut i = at;
     while i < line.len() {
         match next_token(line, i) {
             Next::Nothing => {
-                return Step::Next(true);
+                return AnswerProgress::Next(true);
             }
             Next::Found(t) => {
                 let start = t.start;
                 let stop = t.stop;
                 match setting(file, starts, lens, widths, n, &line[..stop], start) {
                     Setting::Faulty(number) => {
-                        return Step::Stop(refusal(number, start));
+                        return AnswerProgress::Stop(refusal(number, start));
                     }
                     Setting::Set(k, v) => {
                         if flags[k] != 0 {
-                            return Step::Stop(refusal(Refusal::SET_TWICE, start));
+                            return AnswerProgress::Stop(refusal(Refusal::SET_TWICE, start));
                         }
                         flags[k] = 1;
                         values[k] = v;
@@ -126,7 +124,7 @@ fn set_all<'a>(
             }
         }
     }
-    Step::Next(true)
+    AnswerProgress::Next(true)
 }
 
 // The `v` line from `at` to the end.
@@ -141,16 +139,16 @@ pub(crate) fn value_line<'a>(
     flags: &mut [u8; Edition::VARIABLES],
     values: &mut [u64; Edition::VARIABLES],
     solved: bool,
-) -> Step
-    requires { ⌜ (at < length (now line)) × (n ≤ maxVariables) × Whole (now flags) (now values) ⌝ }
-    ensures { λ r. ⌜ ((next : ℕ) → stepResult (entriesIn (now (flags .exit)) (now (values .exit)) n) r ≡ readValues (variablesIn (now (file .entry)) (now (starts .entry)) (now (lens .entry)) (now (widths .entry)) n) (settings solved (entriesIn (now (flags .entry)) (now (values .entry)) n)) (lineAt (now (line .entry)) at next)) × Whole (now (flags .exit)) (now (values .exit)) ⌝ }
+) -> AnswerProgress
+    requires { ⌜ (at < length (now line)) × (n ≤ maxVariables) × SettingsSized (now flags) (now values) ⌝ }
+    ensures { λ r. ⌜ ((next : ℕ) → answerStep (entriesIn (now (flags .exit)) (now (values .exit)) n) r ≡ readValues (variablesIn (now (file .entry)) (now (starts .entry)) (now (lens .entry)) (now (widths .entry)) n) (settingsOf solved (entriesIn (now (flags .entry)) (now (values .entry)) n)) (lineAt (now (line .entry)) at next)) × SettingsSized (now (flags .exit)) (now (values .exit)) ⌝ }
 {
     if !solved {
-        return Step::Stop(refusal(Refusal::MISPLACED_LINE, at));
+        return AnswerProgress::Stop(refusal(Refusal::MISPLACED_LINE, at));
     }
     let next = at + 1;
     match set_all(file, starts, lens, widths, n, line, next, flags, values) {
-        Step::Next(_) => Step::Next(true),
-        Step::Stop(r) => Step::Stop(r),
+        AnswerProgress::Next(_) => AnswerProgress::Next(true),
+        AnswerProgress::Stop(r) => AnswerProgress::Stop(r),
     }
 }

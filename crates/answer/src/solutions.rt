@@ -1,6 +1,6 @@
 // The `s` line.
+use super::AnswerProgress;
 use super::Solution;
-use super::Step;
 use super::words::satisfiable;
 use super::words::unknown;
 use super::words::unsatisfiable;
@@ -18,9 +18,9 @@ ghost use lib.ListN.{length, drop};
 ghost use Rattle.refusal.specs.Result.{refusal as refusalOf};
 ghost use Rattle.refusal.specs.declared.Subject.the-variants.{Answer};
 ghost use Rattle.text.specs.Lines.{tokensFrom};
-ghost use Rattle.constraint.specs.Answers.{lineAt};
-ghost use Rattle.answer.specs.Read.{settings, solutionOf, readSolution};
-ghost use Rattle.answer.specs.Answers.{stepResult, unlessMore};
+ghost use Rattle.text.specs.Scan.{lineAt};
+ghost use Rattle.answer.specs.Read.{settingsOf, solutionOf, readSolution};
+ghost use Rattle.answer.specs.Internal.{answerStep, unlessSurplus};
 
 // A refusal of the answer.
 pub(crate) fn refusal(number: u8, position: usize) -> Refusal
@@ -48,34 +48,37 @@ fn solution_at(text: &[u8], at: usize) -> Solution
 }
 
 // The `s` line is read, unless another token stands from `at` on.
-fn unless_more(line: &[u8], at: usize) -> Step
+fn unless_more(line: &[u8], at: usize) -> AnswerProgress
     requires { ⌜ at ≤ length (now line) ⌝ }
-    ensures { λ r. ⌜ ((vs : List (Option ℕ)) → stepResult vs r ≡ unlessMore (tokensFrom true at (drop at (now (line .entry)))) (settings true vs)) ⌝ }
+    ensures { λ r. ⌜ ((vs : List (Option ℕ)) → answerStep vs r ≡ unlessSurplus (tokensFrom true at (drop at (now (line .entry)))) (settingsOf true vs)) ⌝ }
 {
     match next_token(line, at) {
-        Next::Found(t) => Step::Stop(refusal(Refusal::TOKEN_COUNT, t.start)),
-        Next::Nothing => Step::Next(true),
+        Next::Found(t) => AnswerProgress::Stop(refusal(Refusal::TOKEN_COUNT, t.start)),
+        Next::Nothing => AnswerProgress::Next(true),
     }
 }
 
 // The `s` line from `at` to the end.
-pub(crate) fn solution_line(line: &[u8], at: usize, solved: bool) -> Step
+pub(crate) fn solution_line(line: &[u8], at: usize, solved: bool) -> AnswerProgress
     requires { ⌜ at < length (now line) ⌝ }
-    ensures { λ r. ⌜ ((vs : List (Option ℕ)) (next : ℕ) → stepResult vs r ≡ readSolution (settings solved vs) (lineAt (now (line .entry)) at next)) ⌝ }
+    ensures { λ r. ⌜ ((vs : List (Option ℕ)) (next : ℕ) → answerStep vs r ≡ readSolution (settingsOf solved vs) (lineAt (now (line .entry)) at next)) ⌝ }
 {
     if solved {
-        return Step::Stop(refusal(Refusal::MISPLACED_LINE, at));
+        return AnswerProgress::Stop(refusal(Refusal::MISPLACED_LINE, at));
     }
     let next = at + 1;
     match next_token(line, next) {
-        Next::Nothing => Step::Stop(refusal(Refusal::TOKEN_COUNT, line.len())),
+        Next::Nothing => AnswerProgress::Stop(refusal(Refusal::TOKEN_COUNT, line.len())),
         Next::Found(t) => {
             let start = t.start;
             let stop = t.stop;
             match solution_at(&line[..stop], start) {
                 Solution::Satisfiable => unless_more(line, stop),
-                Solution::Otherwise => Step::Stop(refusal(Refusal::NOT_SATISFIABLE, start)),
-                Solution::NoWord => Step::Stop(refusal(Refusal::NO_SOLUTION_WORD, start)),
+                Solution::Otherwise => AnswerProgress::Stop(refusal(
+                    Refusal::NOT_SATISFIABLE,
+                    start,
+                )),
+                Solution::NoWord => AnswerProgress::Stop(refusal(Refusal::NO_SOLUTION_WORD, start)),
             }
         }
     }

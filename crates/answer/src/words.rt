@@ -1,6 +1,6 @@
 // The solution words.
 ghost use mathlib.Core.Path.{_≡_};
-ghost use Rattle.answer.specs.Words.{satisfiable as satisfiableWord, unsatisfiable as unsatisfiableWord, unknown as unknownWord};
+ghost use Rattle.answer.specs.SolutionWords.{satisfiable as satisfiableWord, unsatisfiable as unsatisfiableWord, unknown as unknownWord};
 
 pub fn satisfiable() -> [u8; 11]
     ensures { λ r. ⌜ r ≡ satisfiableWord ⌝ }

@@ -5,6 +5,7 @@
 // of `r` a constraint file and an answer, then the entries of the table; of `w` a constraint file, the values in 16 digits each, then the bytes of the room.
 use answer::ReadReply;
 use libc::STDOUT_FILENO;
+use reporting::cases::load_both;
 use writer::WriteReply;
 
 const HEADER: usize = 36;
@@ -47,10 +48,7 @@ fn parse(digits: &[u8], table: &mut [u64]) {
 
 // Loads the files of a case, and answers it; false where the input is too short.
 fn read_case(constraint: &mut [u8], answer: &mut [u8], table: &mut [u64]) -> bool {
-    if !reporting::load(constraint) {
-        return false;
-    }
-    if !reporting::load(answer) {
+    if !load_both(constraint, answer) {
         return false;
     }
     reporting::fill(table);
@@ -69,10 +67,7 @@ fn write_case(
     table: &mut [u64],
     room: &mut [u8],
 ) -> bool {
-    if !reporting::load(constraint) {
-        return false;
-    }
-    if !reporting::load(digits) {
+    if !load_both(constraint, digits) {
         return false;
     }
     parse(digits, table);

@@ -4,26 +4,22 @@
 // A run is a line of 38 bytes with `r` and four numbers of eight hexadecimal digits, and the bytes of two files:
 // the numbers are the lengths of the constraint file and of the answer, and the entries of the value table and of the verdict table.
 // Then lines of 54 bytes: `c`, a variable and a value in 16 digits each, and how many values and verdicts are lent, in eight each; `e` ends the run.
+ghost use Rattle.reporting.specs.CaseRooms.{Fitted};
 use libc::STDOUT_FILENO;
-use printing::print_overall;
-use printing::print_reply;
-use printing::print_verdicts;
-use tables::ChangeReply;
+use moves::ChangeReply;
+use moves::runs::change_front;
+use reporting::cases::FILE;
+use reporting::cases::NO_VERDICT;
+use reporting::cases::NextCase;
+use reporting::cases::Sizes;
+use reporting::cases::VALUES;
+use reporting::cases::VERDICTS;
+use reporting::cases::load_both;
+use reporting::cases::next_case;
 use tables::check::check;
-use tables::runs::change_front;
-
-const HEADER: usize = 38;
-
-// Where the four numbers of a header stand.
-const FIRST: usize = 2;
-
-const SECOND: usize = 11;
-
-const THIRD: usize = 20;
-
-const FOURTH: usize = 29;
-
-const NUMBER: usize = 8;
+use verdict_printing::print_overall;
+use verdict_printing::print_reply;
+use verdict_printing::print_verdicts;
 
 const CHANGE: usize = 54;
 
@@ -36,17 +32,10 @@ const VALUES_LENT: usize = 36;
 
 const VERDICTS_LENT: usize = 45;
 
+// The digits of a count, and of a variable or a value.
+const NUMBER: usize = 8;
+
 const LONG_NUMBER: usize = 16;
-
-// Room for a file, and for one that is longer than a file may be.
-const FILE: usize = 70000;
-
-const VALUES: usize = 300;
-
-const VERDICTS: usize = 1100;
-
-// What stands in a table of verdicts before a call.
-const NO_VERDICT: u8 = 7;
 
 fn print_change(reply: ChangeReply) {
     match reply {
@@ -102,62 +91,38 @@ fn replay_run(
     values: &mut [u64],
     verdicts: &mut [u8],
 ) -> bool {
-    if !reporting::load(constraint) {
-        return false;
-    }
-    if !reporting::load(answer) {
+    if !load_both(constraint, answer) {
         return false;
     }
     replay(constraint, answer, values, verdicts);
     true
 }
 
-fn run(
-    constraint_length: usize,
-    answer_length: usize,
-    values_length: usize,
-    verdicts_length: usize,
-) -> bool {
-    if FILE < constraint_length {
-        return false;
-    }
-    if FILE < answer_length {
-        return false;
-    }
-    if VALUES < values_length {
-        return false;
-    }
-    if VERDICTS < verdicts_length {
-        return false;
-    }
+fn run(sizes: Sizes) -> bool
+    requires { ⌜ Fitted sizes ⌝ }
+{
     let mut constraint = [0u8; FILE];
     let mut answer = [0u8; FILE];
     let mut values = [0u64; VALUES];
     let mut verdicts = [NO_VERDICT; VERDICTS];
+    let n = sizes.constraint;
+    let m = sizes.answer;
+    let p = sizes.values;
+    let q = sizes.verdicts;
     replay_run(
-        &mut constraint[..constraint_length],
-        &mut answer[..answer_length],
-        &mut values[..values_length],
-        &mut verdicts[..verdicts_length],
+        &mut constraint[..n],
+        &mut answer[..m],
+        &mut values[..p],
+        &mut verdicts[..q],
     )
 }
 
 // Replays the next run; false where none is left, or one is larger than the room for it.
 fn run_case() -> bool {
-    let mut header = [0u8; HEADER];
-    if !reporting::load(&mut header) {
-        return false;
+    match next_case() {
+        NextCase::Case(sizes) => run(sizes),
+        NextCase::End => false,
     }
-    let constraint_length = reporting::hex(&header, FIRST, FIRST + NUMBER) as usize;
-    let answer_length = reporting::hex(&header, SECOND, SECOND + NUMBER) as usize;
-    let values_length = reporting::hex(&header, THIRD, THIRD + NUMBER) as usize;
-    let verdicts_length = reporting::hex(&header, FOURTH, FOURTH + NUMBER) as usize;
-    run(
-        constraint_length,
-        answer_length,
-        values_length,
-        verdicts_length,
-    )
 }
 
 fn main() {

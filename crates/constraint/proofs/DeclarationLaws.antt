@@ -16,15 +16,16 @@ use Rattle.text.specs.Lines.{TextLine, Token, arguments}
 use Rattle.text.specs.Spelling.{isName, isType, typeWidth, upTo, behind}
 use Rattle.text.proofs.NameLaws.{name-length}
 use Rattle.text.proofs.ReadingLaws.{yields-next}
-use Rattle.constraint.specs.File.{Variable, File, withVariable, edition, variableNamed}
+use Rattle.constraint.specs.File.{Variable, File, withVariable, editionOf, variableNamed}
 use Rattle.spelling.specs.Operators.{isReserved}
 use Rattle.constraint.specs.Read.{inHeader, declare, declareAll, readDeclarations}
-use Rattle.constraint.specs.Claims.{SoundVariable, SoundLine, SoundFile}
+use Rattle.constraint.specs.Sound.{SoundVariable, SoundLine, SoundFile}
 use Rattle.constraint.proofs.EachLaws.{each-last, each-none, distinct-last}
-use Rattle.constraint.proofs.VariableLaws.{is-width, new-name}
+use Rattle.constraint.proofs.VariableLaws.{new-name}
+use Rattle.arithmetic.proofs.RuleLaws.{width-is}
 
 -- one variable more, before the first line
-declare-keeps : (f : File) (t : Token) → length (f .lines) ≡ 0 → SoundFile f → Yields (λ x. SoundFile (withVariable f x)) (declare (edition f) (f .variables) t)
+declare-keeps : (f : File) (t : Token) → length (f .lines) ≡ 0 → SoundFile f → Yields (λ x. SoundFile (withVariable f x)) (declare (editionOf f) (f .variables) t)
 unfolding declare
 declare-keeps f t empty h =
     let name = upTo (code ":") (t .bytes) in
@@ -33,16 +34,16 @@ declare-keeps f t empty h =
     yields-both (isName name) (isType type) _ λ n _.
     yields-ensure (isWidth (typeWidth type)) _ λ w.
     yields-both (leb (length name) maxNameBytes) (ltb (length (f .variables)) maxVariables) _ λ s r.
-    yields-both (not (isReserved (edition f) name)) (not (isThere (variableNamed name (f .variables)))) _ λ u d.
+    yields-both (not (isReserved (editionOf f) name)) (not (isThere (variableNamed name (f .variables)))) _ λ u d.
     yields-accepted (record {
       few-variables = rw length-append (omega (arith, ltb-true (length (f .variables)) maxVariables r));
       few-lines = h .few-lines;
-      variables = each-last (SoundVariable (edition f)) (f .variables) x (h .variables) (record {
+      variables = each-last (SoundVariable (editionOf f)) (f .variables) x (h .variables) (record {
         spelt = n;
         named = name-length name n;
         short = leb-true (length name) maxNameBytes s;
-        free = not-true (isReserved (edition f) name) u;
-        width = is-width (typeWidth type) w;
+        free = not-true (isReserved (editionOf f) name) u;
+        width = width-is (typeWidth type) w;
       });
       distinct = distinct-last (f .variables) x (h .distinct) (new-name name (f .variables) (not-there (variableNamed name (f .variables)) d));
       lines = each-none (SoundLine (f .variables ++ (x ∷ []))) (f .lines) empty;

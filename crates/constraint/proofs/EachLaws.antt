@@ -10,7 +10,7 @@ use Rattle.refusal.specs.Lists.{firstFrom}
 use Rattle.refusal.proofs.ResultLaws.{never}
 use Rattle.refusal.proofs.ListLaws.{first-none}
 use Rattle.constraint.specs.File.{Variable}
-use Rattle.constraint.specs.Claims.{Each, Distinct}
+use Rattle.constraint.specs.Sound.{Each, Distinct}
 
 pub each-map : {A : Type 0} {P Q : A → Type 0} → ((x : A) → P x → Q x) → (xs : List A) → Each P xs → Each Q xs
 each-map h [] p = tt

@@ -16,8 +16,9 @@ use Rattle.refusal.specs.declared.Subject.the-variants.{Constraint}
 use Rattle.refusal.specs.Lists.{every}
 use Rattle.refusal.specs.Result.{Result}
 use Rattle.refusal.proofs.ResultLaws.{Yields, yields-accepted, yields-cond, yields-bind, yields-ensure, yields-both, yields-given, yields-also}
-use Rattle.operator.specs.declared.Operator.{Operator}
-use Rattle.operator.specs.Rules.{arity, widthsHold}
+use Rattle.arithmetic.specs.declared.Operator.{Operator}
+use Rattle.arithmetic.specs.Rules.{arity, widthsHold}
+use Rattle.arithmetic.proofs.RuleLaws.{widths-hold}
 use Rattle.text.specs.Lines.{TextLine, Token, arguments}
 use Rattle.text.specs.Spelling.{isName, isNumeral, decimal, maxDigits, numberBound, isType, typeWidth, upTo, behind}
 use Rattle.text.proofs.ReadingLaws.{yields-next, yields-no-more}
@@ -27,14 +28,14 @@ use Rattle.constraint.specs.declared.Operands.{Operands}
 use Rattle.constraint.specs.declared.Line.{Line}
 use Rattle.constraint.specs.declared.Form.{Form}
 use Rattle.constraint.specs.declared.Form.the-variants.{WithOutput, Predicate}
-use Rattle.constraint.specs.File.{Variable, File, withLine, edition, variableNamed, word, target}
+use Rattle.constraint.specs.File.{Variable, File, withLine, editionOf, variableNamed}
 use Rattle.spelling.specs.Operators.{operatorNamed}
-use Rattle.constraint.specs.Types.{declared, wellTyped}
-use Rattle.constraint.specs.Tables.{Storable, StorableLine}
+use Rattle.constraint.specs.TypeRules.{ruleWord, resultWidth, wellTyped}
 use Rattle.constraint.specs.Read.{readVariable, readConstant, readOperand, nextOperand, readOperands, readOperation, nextOutput, readStatement}
-use Rattle.constraint.specs.Claims.{Each, SoundOperand, SoundLine, SoundVariable, SoundFile}
+use Rattle.constraint.specs.Sound.{Each, SoundOperand, SoundLine, SoundVariable, SoundFile}
 use Rattle.constraint.proofs.EachLaws.{each-last, each-front}
-use Rattle.constraint.proofs.VariableLaws.{is-width, width-test, variable-width, variable-within}
+use Rattle.constraint.proofs.VariableLaws.{width-test, variable-width, variable-within}
+use Rattle.arithmetic.proofs.RuleLaws.{width-is}
 
 -- ---- operands
 -- a sound operand that is there
@@ -63,7 +64,7 @@ constant-yields xs t =
     yields-both (isNumeral maxDigits number) (isType type) _ λ _ _.
     yields-ensure (isWidth (typeWidth type)) _ λ w.
     yields-ensure (ltb (decimal number) numberBound) _ λ _.
-    yields-accepted (is-width (typeWidth type) w, mod-lt (decimal number) (pow-pos (typeWidth type)))
+    yields-accepted (width-is (typeWidth type) w, mod-lt (decimal number) (pow-pos (typeWidth type)))
 
 operand-yields : (xs : List Variable) (t : Token) → Yields (Present xs) (readOperand xs t)
 unfolding readOperand
@@ -105,27 +106,26 @@ operands-yield xs l (suc n) ts =
 
 -- ---- the widths of a line
 module _ (e : Edition) (xs : List Variable) (h : Each (SoundVariable e) xs) where
-  present-width : (o : Operand) → Present xs o → isWidth (declared xs o .width) ≡ true
-  unfolding word
+  present-width : (o : Operand) → Present xs o → isWidth (ruleWord xs o .width) ≡ true
+  unfolding ruleWord
   present-width Absent p = absurd p
   present-width (Var i) p = variable-width e xs i h p
   present-width (Const w) p = width-test (w .width) (p .0)
 
-  target-width : (o : Operand) → SoundOperand xs o → isWidth (target xs [] o .width) ≡ true
-  unfolding target word isWidth
+  target-width : (o : Operand) → SoundOperand xs o → isWidth (resultWidth xs o) ≡ true
+  unfolding resultWidth isWidth
   target-width Absent p = refl
   target-width (Var i) p = variable-width e xs i h p
   target-width (Const w) p = width-test (w .width) (p .0)
 
-  present-widths : (n : ℕ) (os : List Operand) → Each (Present xs) (take n os) → every (λ w. isWidth (w .width)) (take n (map (declared xs) os)) ≡ true
+  present-widths : (n : ℕ) (os : List Operand) → Each (Present xs) (take n os) → every (λ w. isWidth (w .width)) (take n (map (ruleWord xs) os)) ≡ true
   unfolding every
   present-widths zero os p = refl
   present-widths (suc n) [] p = refl
   present-widths (suc n) (o ∷ os) p = rw (present-width o (p .0)) (present-widths n os (p .1))
 
-  widths-hold : (op : Operator) (o a b c : Operand) → SoundOperand xs o → Each (Present xs) (take (arity op) (a ∷ b ∷ c ∷ [])) → widthsHold op (target xs [] o .width) (declared xs a) (declared xs b) (declared xs c) ≡ true
-  unfolding widthsHold
-  widths-hold op o a b c p q = rw (target-width o p) (present-widths (arity op) (a ∷ b ∷ c ∷ []) q)
+  widths-there : (op : Operator) (o a b c : Operand) → SoundOperand xs o → Each (Present xs) (take (arity op) (a ∷ b ∷ c ∷ [])) → widthsHold op (resultWidth xs o) (ruleWord xs a) (ruleWord xs b) (ruleWord xs c) ≡ true
+  widths-there op o a b c p q = widths-hold op (ruleWord xs a) (ruleWord xs b) (ruleWord xs c) (resultWidth xs o) (target-width o p) (present-widths (arity op) (a ∷ b ∷ c ∷ []) q)
 
 -- ---- lines
 -- one line more
@@ -143,14 +143,14 @@ module _ (f : File) (l : TextLine) (h : SoundFile f) where
   unfolding readOperation
   operation-keeps output ts o room =
       yields-next Constraint l ts λ p.
-      yields-given (operatorNamed (edition f) (p .0 .bytes)) _ λ op _.
+      yields-given (operatorNamed (editionOf f) (p .0 .bytes)) _ λ op _.
       yields-bind (operands-yield (f .variables) l (arity op) (p .1)) λ q k.
       let line : Line = record { output = output; operator = op; operands = q .0 } in
       yields-no-more Constraint (q .1)
       (yields-ensure (wellTyped (f .variables) line) _ λ w.
       yields-accepted (with-line f line h room (record {
         typed = w;
-        widths = widths-hold (edition f) (f .variables) (h .variables) op output (q .0 .first) (q .0 .second) (q .0 .third) o (k .there);
+        widths = widths-there (editionOf f) (f .variables) (h .variables) op output (q .0 .first) (q .0 .second) (q .0 .third) o (k .there);
         output = o;
         first = k .first;
         second = k .second;
@@ -164,30 +164,31 @@ module _ (f : File) (l : TextLine) (h : SoundFile f) where
       yields-bind (output-yields form (f .variables) l (arguments l)) λ p o.
       operation-keeps (p .0) (p .1) o (ltb-true (length (f .lines)) maxLines e)
 
--- ---- lines that are read have room in the table
-storable : (xs : List Variable) (o : Operand) → SoundOperand xs o → Storable o
-storable xs Absent h = tt
-storable xs (Var i) h = tt
-storable xs (Const w) h = h .0 .most
+-- ---- the parts of a line that is read, in a file of any lines
+pub record SoundParts (xs : List Variable) (line : Line) : Type 0 where
+  pub output : SoundOperand xs (line .output)
+  pub first : SoundOperand xs (line .operands .first)
+  pub second : SoundOperand xs (line .operands .second)
+  pub third : SoundOperand xs (line .operands .third)
 
 module _ (f : File) (l : TextLine) where
-  operation-storable : (output : Operand) (ts : List Token) → SoundOperand (f .variables) output → Yields StorableLine (readOperation f l output ts)
+  operation-parts : (output : Operand) (ts : List Token) → SoundOperand (f .variables) output → Yields (SoundParts (f .variables)) (readOperation f l output ts)
   unfolding readOperation
-  operation-storable output ts o =
+  operation-parts output ts o =
       yields-next Constraint l ts λ p.
-      yields-given (operatorNamed (edition f) (p .0 .bytes)) _ λ op _.
+      yields-given (operatorNamed (editionOf f) (p .0 .bytes)) _ λ op _.
       yields-bind (operands-yield (f .variables) l (arity op) (p .1)) λ q k.
       let line : Line = record { output = output; operator = op; operands = q .0 } in
       yields-no-more Constraint (q .1)
       (yields-ensure (wellTyped (f .variables) line) _ λ w.
-      yields-accepted (record { output = storable (f .variables) output o; first = storable (f .variables) (q .0 .first) (k .first); second = storable (f .variables) (q .0 .second) (k .second); third = storable (f .variables) (q .0 .third) (k .third) }))
+      yields-accepted (record { output = o; first = k .first; second = k .second; third = k .third }))
 
-  with-room : {r : Result Line} → length (f .lines) < maxLines → Yields StorableLine r → Yields (λ line. (length (f .lines) < maxLines) × StorableLine line) r
+  with-room : {r : Result Line} → length (f .lines) < maxLines → Yields (SoundParts (f .variables)) r → Yields (λ line. (length (f .lines) < maxLines) × SoundParts (f .variables) line) r
   with-room h y = record { holds = λ line e. (h, y .holds line e) }
 
-  pub statement-fits : (form : Form) → Yields (λ line. (length (f .lines) < maxLines) × StorableLine line) (readStatement form f l)
+  pub statement-parts : (form : Form) → Yields (λ line. (length (f .lines) < maxLines) × SoundParts (f .variables) line) (readStatement form f l)
   unfolding readStatement
-  statement-fits form =
+  statement-parts form =
       yields-ensure (ltb (length (f .lines)) maxLines) _ λ e.
       yields-bind (output-yields form (f .variables) l (arguments l)) λ p o.
-      with-room (ltb-true (length (f .lines)) maxLines e) (operation-storable (p .0) (p .1) o)
+      with-room (ltb-true (length (f .lines)) maxLines e) (operation-parts (p .0) (p .1) o)

@@ -18,10 +18,10 @@ use Rattle.text.proofs.ReadingLaws.{yields-next, yields-no-more, keeps-text}
 use Rattle.constraint.specs.declared.Line.{Line}
 use Rattle.constraint.specs.declared.Kind.{Kind}
 use Rattle.constraint.specs.declared.Kind.the-variants.{Skipped, OfVersion, OfExpectation, OfDeclarations, OfStatement, OfNoKind}
-use Rattle.constraint.specs.File.{Variable, File, emptyFile, withVersion, withExpectation, withLine, edition}
+use Rattle.constraint.specs.File.{Variable, File, emptyFile, withVersion, withExpectation, withLine, editionOf}
 use Rattle.spelling.specs.Operators.{spellings}
 use Rattle.constraint.specs.Read.{inHeader, readSingle, versionOf, readVersion, expectationOf, readExpectation, addLine, kindOf, readAs, readLine, readFile}
-use Rattle.constraint.specs.Claims.{SoundVariable, SoundFile, AcceptedIsSound}
+use Rattle.constraint.specs.Sound.{SoundVariable, SoundFile, AcceptedIsSound}
 use Rattle.constraint.proofs.EachLaws.{each-map}
 use Rattle.constraint.proofs.DeclarationLaws.{declarations-keep}
 use Rattle.constraint.proofs.OperationLaws.{statement-keeps}
@@ -35,7 +35,7 @@ with-version : (f : File) (e : Edition) → SoundFile f → SoundFile (withVersi
 with-version f e h = record {
   few-variables = h .few-variables;
   few-lines = h .few-lines;
-  variables = each-map (any-edition (edition f) e) (f .variables) (h .variables);
+  variables = each-map (any-edition (editionOf f) e) (f .variables) (h .variables);
   distinct = h .distinct;
   lines = h .lines;
 }

@@ -1,27 +1,26 @@
 -- The variable of a name, and widths as the claims say them. Assumes nothing.
-use Prim.Native.Nat.{ℕ, _<_}
-use mathlib.Core.Path.{_≡_}
+use Prim.Native.Nat.{ℕ, zero, suc, _+_, _<_}
+use mathlib.Core.Path.{_≡_, sym, _∙_}
 use mathlib.Core.Bool.{true, false}
-use mathlib.Core.List.{List, []}
+use mathlib.Core.List.{List, [], _∷_}
 use mathlib.Core.Option.{none, some}
+use native.Mathlib.Nat.{add-zero}
 use native.Mathlib.Omega.{arith}
-use lib.ListN.{length}
+use lib.ListN.{length, getD}
 use borrow.Author.Tests.{le-leb}
 use Rattle.edition.specs.declared.Edition.{Edition}
 use Rattle.edition.specs.Edition.{maxWidth, isWidth}
+use Rattle.refusal.specs.Lists.{firstFrom}
 use Rattle.refusal.proofs.ResultLaws.{never}
 use Rattle.refusal.proofs.ListLaws.{first-below}
-use Rattle.operator.proofs.RuleLaws.{width-is}
 use Rattle.text.specs.Bytes.{same}
-use Rattle.text.proofs.NameLaws.{same-self}
+use Rattle.text.proofs.NameLaws.{same-self, same-false}
 use Rattle.constraint.specs.File.{Variable, variableNamed, widthAt}
-use Rattle.constraint.specs.Claims.{Each, IsWidth, SoundVariable}
+use Rattle.constraint.specs.Sound.{Each, SoundVariable, Distinct}
+use Rattle.arithmetic.specs.Given.{IsWidth}
 use Rattle.constraint.proofs.EachLaws.{each-map, each-at, each-fails}
 
--- what passes the test is a width
-pub is-width : (k : ℕ) → isWidth k ≡ true → IsWidth k
-is-width k e = let w = width-is k e in record { least = w .least; most = w .most }
-
+-- a width passes the test
 pub width-test : (k : ℕ) → IsWidth k → isWidth k ≡ true
 unfolding isWidth
 width-test k h = rw (le-leb 1 k (h .least), le-leb k maxWidth (h .most))
@@ -43,3 +42,13 @@ new-name name xs e = each-map (differs name) xs (each-fails (λ y. same (y .name
 pub variable-within : (name : List ℕ) (xs : List Variable) (i : ℕ) → variableNamed name xs ≡ some i → i < length xs
 unfolding variableNamed
 variable-within name xs i e = let h = first-below (λ y. same (y .name) name) 0 i xs e in omega arith
+
+-- where no two names are the same, any variable that has the name is the one found
+pub named-at : (name : List ℕ) (d : Variable) (xs : List Variable) (k i : ℕ) → Distinct xs → i < length xs → getD xs i d .name ≡ name → firstFrom (λ x. same (x .name) name) k xs ≡ some (k + i)
+unfolding firstFrom
+named-at name d [] k i u h e = let z : ⊥ = omega arith in absurd z
+named-at name d (x ∷ xs) k zero u h e = rw (e, same-self name, add-zero k)
+named-at name d (x ∷ xs) k (suc i) u h e =
+    let other : same (x .name) name ≡ false = same-false (x .name) name (λ q. each-at (λ y. x .name ≡ y .name → ⊥) xs i d (u .0) (omega arith) (q ∙ sym e)) in
+    let place : suc k + i ≡ k + suc i = omega arith in
+    rw (other, ← place) (named-at name d xs (suc k) i (u .1) (omega arith) e)

@@ -1,10 +1,5 @@
 pub mod File
-pub mod Types
+pub mod TypeRules
 pub mod Read
-pub mod Inspect
-pub mod Claims
-pub mod Tables
-pub mod Words
-pub mod Typing
-pub mod Answers
-pub mod Edges
+pub mod Sound
+pub mod Refusals

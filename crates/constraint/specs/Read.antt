@@ -14,7 +14,7 @@ use Rattle.refusal.specs.Numbers.{unknownLine, misplacedLine, wrongVersion, wro
 use Rattle.refusal.specs.Lists.{isThere}
 use Rattle.refusal.specs.Result.{Result, accepted, refused, refusal, ensure, given, _>>=_, _>>_}
 use Rattle.refusal.specs.Words.{ascii}
-use Rattle.operator.specs.Rules.{arity}
+use Rattle.arithmetic.specs.Rules.{arity}
 use Rattle.text.specs.Bytes.{same}
 use Rattle.text.specs.Lines.{TextLine, Token, arguments, leads}
 use Rattle.text.specs.Spelling.{isName, isNumeral, decimal, maxDigits, numberBound, isType, typeWidth, upTo, behind}
@@ -27,8 +27,8 @@ use Rattle.constraint.specs.declared.Kind.{Kind}
 use Rattle.constraint.specs.declared.Kind.the-variants.{Skipped, OfVersion, OfExpectation, OfDeclarations, OfStatement, OfNoKind}
 use Rattle.constraint.specs.declared.Form.{Form}
 use Rattle.constraint.specs.declared.Form.the-variants.{WithOutput, Predicate}
-use Rattle.constraint.specs.File.{Variable, File, emptyFile, withVersion, withExpectation, withVariable, withLine, edition, variableNamed}
-use Rattle.constraint.specs.Types.{wellTyped}
+use Rattle.constraint.specs.File.{Variable, File, emptyFile, withVersion, withExpectation, withVariable, withLine, editionOf, variableNamed}
+use Rattle.constraint.specs.TypeRules.{wellTyped}
 use Rattle.spelling.specs.Operators.{operatorNamed, isReserved}
 
 -- the refusal of a token, and of a line at its start
@@ -90,7 +90,7 @@ declare e xs t = do
 -- declarations from left to right
 unfoldable pub declareAll : File → List Token → Result File
 declareAll f [] = accepted f
-declareAll f (t ∷ ts) = declare (edition f) (f .variables) t >>= λ x. declareAll (withVariable f x) ts
+declareAll f (t ∷ ts) = declare (editionOf f) (f .variables) t >>= λ x. declareAll (withVariable f x) ts
 
 -- "`d` takes one or more"
 unfoldable pub readDeclarations : File → TextLine → Result File
@@ -148,7 +148,7 @@ readOperands xs l (suc n) ts = do
 unfoldable pub readOperation : File → TextLine → Operand → List Token → Result Line
 readOperation f l output ts = do
   (t, ts) ← nextToken Constraint l ts
-  op ← given (operatorNamed (edition f) (t .bytes)) (at t unknownOperator)
+  op ← given (operatorNamed (editionOf f) (t .bytes)) (at t unknownOperator)
   (os, ts) ← readOperands (f .variables) l (arity op) ts
   noMoreTokens Constraint ts
   let line : Line = record { output = output; operator = op; operands = os }

@@ -1,13 +1,7 @@
 // The claims: each is the contract of an empty function, so that a check lists it by name.
-ghost use Rattle.constraint.specs.Claims.{AcceptedIsSound};
-ghost use Rattle.constraint.specs.Edges.{Edges};
+ghost use Rattle.constraint.specs.Sound.{AcceptedIsSound};
 
 // An accepted file is well formed and well typed within the limits.
 pub fn accepted_is_sound()
     ensures { λ _. ⌜ AcceptedIsSound ⌝ }
-{}
-
-// The scope document's edges.
-pub fn edges_hold()
-    ensures { λ _. ⌜ Edges ⌝ }
 {}

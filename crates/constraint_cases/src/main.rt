@@ -1,11 +1,11 @@
-// Prints what `constraint::inspect` answers to each file of standard input, a line for each.
+// Prints what `reader::inspect` answers to each file of standard input, a line for each.
 // tools/constraint_cases.py writes the files and, by a reader of its own, the answers.
 //
 // Before each file stands its length: eight hexadecimal digits and a line end.
-use constraint::Counts;
-use constraint::Inspected;
 use libc::STDIN_FILENO;
 use libc::STDOUT_FILENO;
+use reader::Counts;
+use reader::Inspected;
 
 // The bytes of a length, with its line end.
 const HEADER: usize = 9;
@@ -44,7 +44,7 @@ fn run_file(file: &mut [u8]) -> bool {
     if n < file.len() {
         return false;
     }
-    print_answer(constraint::inspect(file));
+    print_answer(reader::inspect(file));
     true
 }
 

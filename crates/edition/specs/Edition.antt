@@ -14,29 +14,25 @@ edition10 = record { major = 1; minor = 0 }
 unfoldable pub editionNumbered : ℕ → ℕ → Option Edition
 editionNumbered major minor = cond (eqb major (edition10 .major) && eqb minor (edition10 .minor)) (some edition10) none
 
--- the bytes of either file, at most
+-- the limits of an edition: bytes of either file, variables, lines of kind `c` or `p`, bytes of a name, bits of a value
+abbrev pub limits : Edition → Limits
+limits e = record { file = 65536; variables = 256; lines = 1024; name = 32; width = 64 }
+
+-- those of version 1.0, each by its name
 abbrev pub maxFileBytes : ℕ
-maxFileBytes = 65536
+maxFileBytes = limits edition10 .file
 
--- the variables, at most
 abbrev pub maxVariables : ℕ
-maxVariables = 256
+maxVariables = limits edition10 .variables
 
--- the lines of kind `c` or `p`, at most
 abbrev pub maxLines : ℕ
-maxLines = 1024
+maxLines = limits edition10 .lines
 
--- the bytes of a name, at most
 abbrev pub maxNameBytes : ℕ
-maxNameBytes = 32
+maxNameBytes = limits edition10 .name
 
--- the bits of a value, at most
 abbrev pub maxWidth : ℕ
-maxWidth = 64
-
--- the limits of version 1.0
-abbrev pub limits10 : Limits
-limits10 = record { file = maxFileBytes; variables = maxVariables; lines = maxLines; name = maxNameBytes; width = maxWidth }
+maxWidth = limits edition10 .width
 
 -- "widths 1 to 64"
 unfoldable pub isWidth : ℕ → Bool

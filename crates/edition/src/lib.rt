@@ -1,6 +1,17 @@
 // The editions of the format, and the limits that belong to them.
 ghost use mathlib.Core.Path.{_≡_};
-ghost use Rattle.edition.specs.Edition.{edition10, limits10, isWidth};
+ghost use Rattle.edition.specs.Edition.{edition10, limits as limitsOf, isWidth};
+ghost use Rattle.edition.specs.Word.{wordBits};
+
+// The bits of a word, which holds a value of any width.
+pub const WORD_BITS: u64 = 64;
+
+// This contract ties the constant to the definition.
+pub fn word_bits() -> u64
+    ensures { λ r. ⌜ r ≡ wordBits ⌝ }
+{
+    WORD_BITS
+}
 
 // A version of the format: `v MAJOR.MINOR`.
 pub struct Edition {
@@ -35,9 +46,9 @@ impl Edition {
         Self { major: 1, minor: 0 }
     }
 
-    // The constants, all at once: this contract is what ties them to the definitions.
-    pub fn limits() -> Limits
-        ensures { λ r. ⌜ r ≡ limits10 ⌝ }
+    // The limits of this edition: this contract is what ties the constants to the definitions.
+    pub fn limits(self) -> Limits
+        ensures { λ r. ⌜ r ≡ limitsOf self ⌝ }
     {
         Limits {
             file: Self::FILE_BYTES,

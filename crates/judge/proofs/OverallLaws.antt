@@ -13,10 +13,10 @@ use Rattle.refusal.proofs.ResultLaws.{never}
 use Rattle.refusal.proofs.ListLaws.{first-none, first-below, first-from}
 use Rattle.constraint.specs.declared.Line.{Line}
 use Rattle.constraint.specs.File.{Variable, target}
-use Rattle.constraint.specs.Claims.{Each}
+use Rattle.constraint.specs.Sound.{Each}
 use Rattle.judge.specs.declared.Overall.{Overall}
 use Rattle.judge.specs.declared.Overall.the-variants.{Satisfied, Violated, Disregarded}
-use Rattle.judge.specs.Judge.{violated, holds, disregarded, result, judged, judge, verdictsOf, firstVerdict, overallBy, overall}
+use Rattle.judge.specs.Judge.{verdictViolated, verdictHolds, verdictDisregarded, resultOf, judged, judge, verdictsOf, firstVerdict, overallBy, overallOf}
 
 -- ---- the place of a first verdict
 -- a line of these verdicts, from 1
@@ -36,14 +36,14 @@ Named (Violated n) vs = Place n vs
 Named (Disregarded n) vs = Place n vs
 
 -- it names the line of a first verdict
-named : (vs : List ℕ) (d v : Option ℕ) → firstVerdict disregarded vs ≡ d → firstVerdict violated vs ≡ v → Named (overallBy d v) vs
-named vs (some n) v p q = verdict-place disregarded n vs p
-named vs none (some n) p q = verdict-place violated n vs q
+named : (vs : List ℕ) (d v : Option ℕ) → firstVerdict verdictDisregarded vs ≡ d → firstVerdict verdictViolated vs ≡ v → Named (overallBy d v) vs
+named vs (some n) v p q = verdict-place verdictDisregarded n vs p
+named vs none (some n) p q = verdict-place verdictViolated n vs q
 named vs none none p q = tt
 
-pub overall-named : (vs : List ℕ) → Named (overall vs) vs
-unfolding overall
-overall-named vs = named vs (firstVerdict disregarded vs) (firstVerdict violated vs) refl refl
+pub overall-named : (vs : List ℕ) → Named (overallOf vs) vs
+unfolding overallOf
+overall-named vs = named vs (firstVerdict verdictDisregarded vs) (firstVerdict verdictViolated vs) refl refl
 
 -- ---- satisfied
 -- there is no first 2 and no first 0
@@ -53,48 +53,48 @@ by-none none (some n) e = never (cc e)
 by-none none none e = (refl, refl)
 
 -- a verdict that is neither 2 nor 0
-holds-by : (r goal : ℕ) (t : Bool) → eqb r goal ≡ t → eqb violated (cond t holds violated) ≡ false → some r ≡ some goal
+holds-by : (r goal : ℕ) (t : Bool) → eqb r goal ≡ t → eqb verdictViolated (cond t verdictHolds verdictViolated) ≡ false → some r ≡ some goal
 holds-by r goal true q h = ap some (eqb-true r goal q)
 holds-by r goal false q h = never (cc h)
 
-judged-holds : (o : Option ℕ) (goal : ℕ) → eqb disregarded (judged o goal .verdict) ≡ false → eqb violated (judged o goal .verdict) ≡ false → o ≡ some goal
+judged-holds : (o : Option ℕ) (goal : ℕ) → eqb verdictDisregarded (judged o goal .verdict) ≡ false → eqb verdictViolated (judged o goal .verdict) ≡ false → o ≡ some goal
 judged-holds none goal d v = never (cc d)
 judged-holds (some r) goal d v = holds-by r goal (eqb r goal) refl v
 
 module _ (xs : List Variable) (row : List ℕ) where
   -- a line holds
   abbrev pub Holds : Line → Type 0
-  Holds l = result xs row l ≡ some (target xs row (l .output) .value)
+  Holds l = resultOf xs row l ≡ some (target xs row (l .output) .value)
 
   -- a line and its verdict
-  line-holds : (l : Line) → eqb disregarded (judge xs row l .verdict) ≡ false → eqb violated (judge xs row l .verdict) ≡ false → Holds l
+  line-holds : (l : Line) → eqb verdictDisregarded (judge xs row l .verdict) ≡ false → eqb verdictViolated (judge xs row l .verdict) ≡ false → Holds l
   unfolding judge
-  line-holds l = judged-holds (result xs row l) (target xs row (l .output) .value)
+  line-holds l = judged-holds (resultOf xs row l) (target xs row (l .output) .value)
 
-  verdict-holds : (l : Line) → Holds l → judge xs row l .verdict ≡ holds
+  verdict-holds : (l : Line) → Holds l → judge xs row l .verdict ≡ verdictHolds
   unfolding judge
   verdict-holds l h = rw (h, eq-eqb (target xs row (l .output) .value) (target xs row (l .output) .value) refl)
 
   -- no verdict is 2 and none is 0, exactly where each line holds
-  lines-hold : (n : ℕ) (ls : List Line) → firstFrom (eqb disregarded) n (verdictsOf xs row ls) ≡ none → firstFrom (eqb violated) n (verdictsOf xs row ls) ≡ none → Each Holds ls
+  lines-hold : (n : ℕ) (ls : List Line) → firstFrom (eqb verdictDisregarded) n (verdictsOf xs row ls) ≡ none → firstFrom (eqb verdictViolated) n (verdictsOf xs row ls) ≡ none → Each Holds ls
   unfolding verdictsOf
   lines-hold n [] d v = tt
   lines-hold n (l ∷ ls) d v =
-      let p = first-none (eqb disregarded) n (judge xs row l .verdict) (verdictsOf xs row ls) d in
-      let q = first-none (eqb violated) n (judge xs row l .verdict) (verdictsOf xs row ls) v in
+      let p = first-none (eqb verdictDisregarded) n (judge xs row l .verdict) (verdictsOf xs row ls) d in
+      let q = first-none (eqb verdictViolated) n (judge xs row l .verdict) (verdictsOf xs row ls) v in
       (line-holds l (p .0) (q .0), lines-hold (suc n) ls (p .1) (q .1))
 
-  none-other : (v n : ℕ) (ls : List Line) → eqb v holds ≡ false → Each Holds ls → firstFrom (eqb v) n (verdictsOf xs row ls) ≡ none
+  none-other : (v n : ℕ) (ls : List Line) → eqb v verdictHolds ≡ false → Each Holds ls → firstFrom (eqb v) n (verdictsOf xs row ls) ≡ none
   unfolding verdictsOf firstFrom
   none-other v n [] e h = refl
   none-other v n (l ∷ ls) e h = rw (verdict-holds l (h .0), e) (none-other v (suc n) ls e (h .1))
 
   -- satisfied, exactly where each line holds
   module _ (ls : List Line) where
-    pub satisfied-holds : overall (verdictsOf xs row ls) ≡ Satisfied → Each Holds ls
-    unfolding overall firstVerdict
-    satisfied-holds e = let p = by-none (firstVerdict disregarded (verdictsOf xs row ls)) (firstVerdict violated (verdictsOf xs row ls)) e in lines-hold 1 ls (p .0) (p .1)
+    pub satisfied-holds : overallOf (verdictsOf xs row ls) ≡ Satisfied → Each Holds ls
+    unfolding overallOf firstVerdict
+    satisfied-holds e = let p = by-none (firstVerdict verdictDisregarded (verdictsOf xs row ls)) (firstVerdict verdictViolated (verdictsOf xs row ls)) e in lines-hold 1 ls (p .0) (p .1)
 
-    pub holds-satisfied : Each Holds ls → overall (verdictsOf xs row ls) ≡ Satisfied
-    unfolding overall firstVerdict
-    holds-satisfied h = rw (none-other disregarded 1 ls refl h, none-other violated 1 ls refl h)
+    pub holds-satisfied : Each Holds ls → overallOf (verdictsOf xs row ls) ≡ Satisfied
+    unfolding overallOf firstVerdict
+    holds-satisfied h = rw (none-other verdictDisregarded 1 ls refl h, none-other verdictViolated 1 ls refl h)

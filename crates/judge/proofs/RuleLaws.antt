@@ -1,79 +1,70 @@
 -- A sound line keeps its operator's rules on widths and types under any row of values. Assumes nothing.
 use Prim.Native.Nat.{ℕ}
-use mathlib.Core.Path.{_≡_, refl, _∙_}
-use mathlib.Core.Bool.{Bool, true, _&&_}
-use mathlib.Core.List.{List, []}
-use Rattle.edition.specs.Edition.{isWidth}
+use mathlib.Core.Path.{_≡_, refl, ap, _∙_}
+use mathlib.Core.Bool.{true, _&&_}
+use mathlib.Core.List.{List}
 use Rattle.refusal.proofs.ResultLaws.{never}
 use Rattle.refusal.proofs.BoolLaws.{and-true}
-use Rattle.operator.specs.declared.Operator.{Operator}
-use Rattle.operator.specs.declared.Operator.the-variants.{Combine, Not, Implies, Compare, Ite, Compute, Divide, Move, Trun, Extend, Conc, Extr}
-use Rattle.operator.specs.declared.Word.{Word}
-use Rattle.operator.specs.Rules.{operands, widthsHold, typed}
-use Rattle.operator.proofs.RuleLaws.{taken-is}
+use Rattle.arithmetic.specs.declared.Operator.{Operator}
+use Rattle.arithmetic.specs.declared.Operator.the-variants.{Extr}
+use Rattle.arithmetic.specs.declared.Word.{Word}
+use Rattle.arithmetic.specs.Rules.{operandsTaken, widthsHold, typed}
+use Rattle.arithmetic.proofs.AlikeLaws.{widths-alike, typed-alike}
 use Rattle.constraint.specs.declared.Operand.{Operand}
 use Rattle.constraint.specs.declared.Operand.the-variants.{Absent, Var, Const}
 use Rattle.constraint.specs.declared.Line.{Line}
-use Rattle.constraint.specs.File.{Variable, word, target}
-use Rattle.constraint.specs.Types.{declared, isConstant, constantRule, predicateRule, wellTyped}
-use Rattle.constraint.specs.Claims.{SoundLine}
+use Rattle.constraint.specs.File.{Variable, operandWord, target}
+use Rattle.constraint.specs.TypeRules.{ruleWord, resultWidth, isConstant, constantRule, predicateRule, wellTyped}
+use Rattle.constraint.specs.Sound.{SoundLine}
 
 -- ---- no variable's value matters to the rules of a line
 module _ (xs : List Variable) (row : List ℕ) where
-  width-same : (o : Operand) → word xs row o .width ≡ declared xs o .width
-  unfolding word
+  width-same : (o : Operand) → operandWord xs row o .width ≡ ruleWord xs o .width
+  unfolding operandWord ruleWord
   width-same Absent = refl
   width-same (Var i) = refl
   width-same (Const w) = refl
 
-  target-same : (o : Operand) → target xs row o .width ≡ target xs [] o .width
-  unfolding target word
+  target-same : (o : Operand) → target xs row o .width ≡ resultWidth xs o
+  unfolding target operandWord resultWidth
   target-same Absent = refl
   target-same (Var i) = refl
   target-same (Const w) = refl
 
-  constant-same : (o : Operand) → isConstant o ≡ true → word xs row o ≡ declared xs o
-  unfolding word isConstant
+  constant-same : (o : Operand) → isConstant o ≡ true → operandWord xs row o ≡ ruleWord xs o
+  unfolding operandWord ruleWord isConstant
   constant-same Absent e = refl
   constant-same (Var i) e = never (cc e)
   constant-same (Const w) e = refl
 
-  widths-same : (op : Operator) (k : ℕ) (a b c : Operand) → widthsHold op k (word xs row a) (word xs row b) (word xs row c) ≡ widthsHold op k (declared xs a) (declared xs b) (declared xs c)
-  unfolding widthsHold
+  widths-same : (op : Operator) (k : ℕ) (a b c : Operand) → widthsHold op k (operandWord xs row a) (operandWord xs row b) (operandWord xs row c) ≡ widthsHold op k (ruleWord xs a) (ruleWord xs b) (ruleWord xs c)
   widths-same op k a b c =
-      let test : Word → Bool = λ w. isWidth (w .width) in
-      rw (taken-is op test (word xs row a) (word xs row b) (word xs row c), taken-is op test (declared xs a) (declared xs b) (declared xs c), width-same a, width-same b, width-same c)
+      widths-alike (operandWord xs row a) (operandWord xs row b) (operandWord xs row c) (ruleWord xs a) (ruleWord xs b) (ruleWord xs c) (width-same a) (width-same b) (width-same c) op k
 
-  typed-same : (op : Operator) (k : ℕ) (a b c : Operand) → constantRule op b c ≡ true → typed op k (word xs row a) (word xs row b) (word xs row c) ≡ typed op k (declared xs a) (declared xs b) (declared xs c)
-  unfolding typed constantRule
-  typed-same (Combine o) k a b c e = rw (width-same a, width-same b)
-  typed-same Not k a b c e = rw (width-same a)
-  typed-same Implies k a b c e = rw (width-same a, width-same b)
-  typed-same (Compare o) k a b c e = rw (width-same a, width-same b)
-  typed-same Ite k a b c e = rw (width-same a, width-same b, width-same c)
-  typed-same (Compute o) k a b c e = rw (width-same a, width-same b)
-  typed-same (Divide o) k a b c e = rw (width-same a, width-same b)
-  typed-same (Move o) k a b c e = rw (width-same a, width-same b)
-  typed-same Trun k a b c e = rw (width-same a)
-  typed-same (Extend o) k a b c e = rw (width-same a)
-  typed-same Conc k a b c e = rw (width-same a, width-same b)
-  typed-same Extr k a b c e =
-      let p = and-true (isConstant b) (isConstant c) e in
-      rw (width-same a, constant-same b (p .0), constant-same c (p .1))
+  -- the last two operands of `extr` are constants
+  constants-same : (op : Operator) (b c : Operand) → constantRule op b c ≡ true → op ≡ Extr → (operandWord xs row b .value ≡ ruleWord xs b .value) × (operandWord xs row c .value ≡ ruleWord xs c .value)
+  unfolding constantRule
+  constants-same op b c e q =
+      let p = and-true (isConstant b) (isConstant c) (rw q at e) in
+      (ap (λ (w : Word). w .value) (constant-same b (p .0)), ap (λ (w : Word). w .value) (constant-same c (p .1)))
+
+  typed-same : (op : Operator) (k : ℕ) (a b c : Operand) → constantRule op b c ≡ true → typed op k (operandWord xs row a) (operandWord xs row b) (operandWord xs row c) ≡ typed op k (ruleWord xs a) (ruleWord xs b) (ruleWord xs c)
+  typed-same op k a b c e =
+      typed-alike (operandWord xs row a) (operandWord xs row b) (operandWord xs row c) (ruleWord xs a) (ruleWord xs b) (ruleWord xs c) (width-same a) (width-same b) (width-same c) op k (constants-same op b c e)
 
 -- ---- so a sound line keeps them under any row
 module _ (xs : List Variable) (row : List ℕ) (l : Line) (s : SoundLine xs l) where
-  pub line-widths : widthsHold (l .operator) (target xs row (l .output) .width) (word xs row (l .operands .first)) (word xs row (l .operands .second)) (word xs row (l .operands .third)) ≡ true
-  line-widths = rw (target-same xs row (l .output)) (widths-same xs row (l .operator) (target xs [] (l .output) .width) (l .operands .first) (l .operands .second) (l .operands .third) ∙ s .widths)
+  pub line-widths : widthsHold (l .operator) (target xs row (l .output) .width) (operandWord xs row (l .operands .first)) (operandWord xs row (l .operands .second)) (operandWord xs row (l .operands .third)) ≡ true
+  line-widths = rw (target-same xs row (l .output)) (widths-same xs row (l .operator) (resultWidth xs (l .output)) (l .operands .first) (l .operands .second) (l .operands .third) ∙ s .widths)
 
-  pub line-typed : typed (l .operator) (target xs row (l .output) .width) (word xs row (l .operands .first)) (word xs row (l .operands .second)) (word xs row (l .operands .third)) ≡ true
+  pub line-typed : typed (l .operator) (target xs row (l .output) .width) (operandWord xs row (l .operands .first)) (operandWord xs row (l .operands .second)) (operandWord xs row (l .operands .third)) ≡ true
   unfolding wellTyped
   line-typed =
-      let k = target xs [] (l .output) .width in
-      let a = declared xs (l .operands .first) in
-      let b = declared xs (l .operands .second) in
-      let c = declared xs (l .operands .third) in
+      let k = resultWidth xs (l .output) in
+      let a = ruleWord xs (l .operands .first) in
+      let b = ruleWord xs (l .operands .second) in
+      let c = ruleWord xs (l .operands .third) in
       let t = typed (l .operator) k a b c in
       let r = constantRule (l .operator) (l .operands .second) (l .operands .third) in
-      let p = and-true t r (and-true (t && r) (predicateRule (l .output) (l .operator) (operands (l .operator) a b c)) (s .typed) .0) in
+      let p = and-true t r (and-true (t && r) (predicateRule (l .output) (l .operator) (operandsTaken (l .operator) a b c)) (s .typed) .0) in
       rw (target-same xs row (l .output)) (typed-same xs row (l .operator) k (l .operands .first) (l .operands .second) (l .operands .third) (p .1) ∙ p .0)

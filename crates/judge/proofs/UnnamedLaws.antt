@@ -1,42 +1,36 @@
 -- The judge needs no names: what it says of variables in the tables, it says of their widths alone. Assumes nothing.
-use Prim.Native.Nat.{ℕ, suc, _<_}
+use Prim.Native.Nat.{ℕ, suc}
 use mathlib.Core.Path.{_≡_, refl, sym, ap, ap₂, _∙_}
 use mathlib.Core.List.{List, [], _∷_, zipWith}
 use native.Mathlib.Omega.{arith}
-use lib.ListN.{length, getD}
-use borrow.Author.Tests.{lt-ltb}
-use Rattle.operator.specs.declared.Word.{Word}
+use lib.ListN.{length}
+use Rattle.arithmetic.specs.declared.Word.{Word}
 use Rattle.constraint.specs.declared.Operand.{Operand}
 use Rattle.constraint.specs.declared.Operand.the-variants.{Absent, Var, Const}
 use Rattle.constraint.specs.declared.Line.{Line}
-use Rattle.constraint.specs.File.{Variable, widthAt, word, target}
-use Rattle.constraint.specs.Tables.{variablesIn}
-use Rattle.constraint.specs.Typing.{widthIn}
-use Rattle.constraint.specs.Claims.{Each}
+use Rattle.constraint.specs.File.{Variable, widthAt, operandWord, target}
+use Rattle.store.specs.Tables.{variablesIn}
+use Rattle.constraint.specs.Sound.{Each}
 use Rattle.constraint.proofs.EachLaws.{each-map}
-use Rattle.constraint.proofs.TypingLaws.{width-is}
-use Rattle.constraint.proofs.LookupLaws.{variables-length}
-use Rattle.judge.specs.Judge.{result, judge, verdictsOf}
-use Rattle.judge.specs.InUse.{held, firstUnfit}
-use Rattle.judge.specs.Unnamed.{unnamed, Fitting}
+use Rattle.store.proofs.WidthLaws.{width-unnamed as width-named}
+use Rattle.store.proofs.LookupLaws.{variables-length}
+use Rattle.judge.specs.Judge.{resultOf, judge, verdictsOf}
+use Rattle.judge.specs.InUse.{valueWords, firstUnfit}
+use Rattle.store.specs.Tables.{unnamed}
+use Rattle.judge.specs.Fitting.{Fitting}
 
 -- what is held goes by the widths
-held-alike : (xs ys : List Variable) (values : List ℕ) → length xs ≡ length ys → ((i : ℕ) → widthAt xs i ≡ widthAt ys i) → held xs values ≡ held ys values
-unfolding held zipWith widthAt
+held-alike : (xs ys : List Variable) (values : List ℕ) → length xs ≡ length ys → ((i : ℕ) → widthAt xs i ≡ widthAt ys i) → valueWords xs values ≡ valueWords ys values
+unfolding valueWords zipWith widthAt
 held-alike [] [] values l h = refl
 held-alike [] (y ∷ ys) values l h = let z : ⊥ = omega arith in absurd z
 held-alike (x ∷ xs) [] values l h = let z : ⊥ = omega arith in absurd z
 held-alike (x ∷ xs) (y ∷ ys) [] l h = refl
 held-alike (x ∷ xs) (y ∷ ys) (v ∷ values) l h = ap₂ (λ (k : ℕ) (ws : List Word). record { width = k; value = v } ∷ ws) (h 0) (held-alike xs ys values (omega arith) (λ i. h (suc i)))
 
--- the width of a variable without a name
-pub width-at : (widths : List ℕ) (n i : ℕ) → i < n → widthAt (unnamed widths n) i ≡ getD widths i 0
-unfolding widthIn
-width-at widths n i h = rw (lt-ltb i n h) at (sym (width-is [] [] [] widths n i))
-
 module _ (file starts lens widths : List ℕ) (n : ℕ) where
   width-unnamed : (i : ℕ) → widthAt (variablesIn file starts lens widths n) i ≡ widthAt (unnamed widths n) i
-  width-unnamed i = sym (width-is file starts lens widths n i) ∙ width-is [] [] [] widths n i
+  width-unnamed i = sym (width-named file starts lens widths n i)
 
   pub unfit-unnamed : (values : List ℕ) → firstUnfit (variablesIn file starts lens widths n) values ≡ firstUnfit (unnamed widths n) values
   unfolding firstUnfit
@@ -46,8 +40,8 @@ module _ (file starts lens widths : List ℕ) (n : ℕ) where
 
   -- under a row of values
   module _ (row : List ℕ) where
-    pub word-unnamed : (o : Operand) → word (variablesIn file starts lens widths n) row o ≡ word (unnamed widths n) row o
-    unfolding word
+    pub word-unnamed : (o : Operand) → operandWord (variablesIn file starts lens widths n) row o ≡ operandWord (unnamed widths n) row o
+    unfolding operandWord
     word-unnamed Absent = refl
     word-unnamed (Var i) = rw (width-unnamed i)
     word-unnamed (Const w) = refl
@@ -59,7 +53,7 @@ module _ (file starts lens widths : List ℕ) (n : ℕ) where
     target-unnamed (Const w) = refl
 
     pub judge-unnamed : (l : Line) → judge (variablesIn file starts lens widths n) row l ≡ judge (unnamed widths n) row l
-    unfolding judge result
+    unfolding judge resultOf
     judge-unnamed l = rw (word-unnamed (l .operands .first), word-unnamed (l .operands .second), word-unnamed (l .operands .third), target-unnamed (l .output))
 
     pub verdicts-unnamed : (ls : List Line) → verdictsOf (variablesIn file starts lens widths n) row ls ≡ verdictsOf (unnamed widths n) row ls
@@ -73,7 +67,7 @@ module _ (file starts lens widths : List ℕ) (n : ℕ) where
         let b = word-unnamed (l .operands .second) in
         let c = word-unnamed (l .operands .third) in
         let g = target-unnamed (l .output) in
-        record { widths = rw (← a, ← b, ← c, ← g) (h .widths); typed = rw (← a, ← b, ← c, ← g) (h .typed); fit = rw (← a, ← b, ← c) (h .fit) }
+        record { widths = rw (← a, ← b, ← c, ← g) (h .widths); rule = rw (← a, ← b, ← c, ← g) (h .rule); fit = rw (← a, ← b, ← c) (h .fit) }
 
     pub each-fitting-unnamed : (ls : List Line) → Each (Fitting (variablesIn file starts lens widths n) row) ls → Each (Fitting (unnamed widths n) row) ls
     each-fitting-unnamed = each-map fitting-unnamed

@@ -8,49 +8,54 @@ use native.Mathlib.Omega.{arith}
 use lib.ListN.{length, getD, drop, set, length-map}
 use lib.Seq.{append-snoc, drop-cons, set-at}
 use borrow.Author.Tests.{eq-eqb, ne-eqb}
-use Rattle.operator.specs.declared.Applied.{Applied}
-use Rattle.operator.specs.declared.Applied.the-variants.{Value, ZeroDivisor, Refused}
-use Rattle.operator.specs.Meaning.{value, meaning}
-use Rattle.operator.specs.Apply.{reported}
+use Rattle.arithmetic.specs.Meaning.{valueOf}
+use Rattle.arithmetic.proofs.ResultLaws.{meaning-is}
+use Rattle.evaluation.specs.declared.Evaluated.{Evaluated}
+use Rattle.evaluation.specs.declared.Evaluated.the-variants.{Value, ZeroDivisor}
+use Rattle.evaluation.specs.Evaluate.{evaluated}
 use Rattle.constraint.specs.declared.Line.{Line}
-use Rattle.constraint.specs.File.{Variable, word, target}
-use Rattle.constraint.specs.Tables.{lineIn, linesIn}
-use Rattle.constraint.specs.Claims.{Each}
+use Rattle.constraint.specs.File.{Variable, operandWord, target}
+use Rattle.store.specs.Tables.{lineIn, linesIn}
+use Rattle.constraint.specs.Sound.{Each}
 use Rattle.constraint.proofs.EachLaws.{each-at}
-use Rattle.constraint.proofs.TableLaws.{getD-tabulate, tabulate-suc, lines-length}
-use Rattle.judge.specs.Judge.{violated, holds, disregarded, result, judge, verdictsOf}
-use Rattle.judge.specs.Unnamed.{Fitting}
+use Rattle.store.proofs.TableLaws.{getD-tabulate, tabulate-suc, lines-length}
+use Rattle.judge.specs.Judge.{verdictViolated, verdictHolds, verdictDisregarded, resultOf, judge, verdictsOf}
+use Rattle.judge.specs.Fitting.{Fitting}
 
 -- ---- one line
 -- the result that an answer has
-abbrev pub resultOf : Applied → Option ℕ
-resultOf (Value r) = some r
-resultOf ZeroDivisor = none
-resultOf (Refused r) = none
+abbrev pub someResult : Evaluated → Option ℕ
+someResult (Value r) = some r
+someResult ZeroDivisor = none
 
-result-reported : (v : Option ℕ) → resultOf (reported v) ≡ v
-result-reported (some r) = refl
-result-reported none = refl
+result-evaluated : (v : Option ℕ) → someResult (evaluated v) ≡ v
+result-evaluated (some r) = refl
+result-evaluated none = refl
 
 -- what the operator of a line answers
-abbrev pub answer : List Variable → List ℕ → Line → Applied
-answer xs row l = reported (value (l .operator) (target xs row (l .output) .width) (word xs row (l .operands .first)) (word xs row (l .operands .second)) (word xs row (l .operands .third)))
+abbrev pub answer : List Variable → List ℕ → Line → Evaluated
+answer xs row l = evaluated (valueOf (l .operator) (target xs row (l .output) .width) (operandWord xs row (l .operands .first)) (operandWord xs row (l .operands .second)) (operandWord xs row (l .operands .third)))
 
 module _ (xs : List Variable) (row : List ℕ) (l : Line) (h : Fitting xs row l) where
-  answered : resultOf (answer xs row l) ≡ result xs row l
-  unfolding result meaning
-  answered = rw (h .widths, h .typed) (result-reported (value (l .operator) (target xs row (l .output) .width) (word xs row (l .operands .first)) (word xs row (l .operands .second)) (word xs row (l .operands .third))))
+  answered : someResult (answer xs row l) ≡ resultOf xs row l
+  unfolding resultOf
+  answered =
+      let k = target xs row (l .output) .width in
+      let a = operandWord xs row (l .operands .first) in
+      let b = operandWord xs row (l .operands .second) in
+      let c = operandWord xs row (l .operands .third) in
+      result-evaluated (valueOf (l .operator) k a b c) ∙ sym (meaning-is (l .operator) k a b c (h .widths) (h .rule))
 
-  pub judge-none : resultOf (answer xs row l) ≡ none → record { verdict = disregarded; result = 0 } ≡ judge xs row l
+  pub judge-none : someResult (answer xs row l) ≡ none → record { verdict = verdictDisregarded; result = 0 } ≡ judge xs row l
   unfolding judge
   judge-none e = rw (← answered, e)
 
-  module _ (r : ℕ) (e : resultOf (answer xs row l) ≡ some r) where
-    pub judge-holds : r ≡ target xs row (l .output) .value → record { verdict = holds; result = r } ≡ judge xs row l
+  module _ (r : ℕ) (e : someResult (answer xs row l) ≡ some r) where
+    pub judge-holds : r ≡ target xs row (l .output) .value → record { verdict = verdictHolds; result = r } ≡ judge xs row l
     unfolding judge
     judge-holds q = rw (← answered, e, eq-eqb r (target xs row (l .output) .value) q)
 
-    pub judge-violated : (r ≡ target xs row (l .output) .value → ⊥) → record { verdict = violated; result = r } ≡ judge xs row l
+    pub judge-violated : (r ≡ target xs row (l .output) .value → ⊥) → record { verdict = verdictViolated; result = r } ≡ judge xs row l
     unfolding judge
     judge-violated q = rw (← answered, e, ne-eqb r (target xs row (l .output) .value) q)
 

@@ -9,10 +9,10 @@ use Rattle.refusal.specs.declared.Subject.the-variants.{Values, Verdicts}
 use Rattle.refusal.specs.Numbers.{tooShort, heldDoesNotFit}
 use Rattle.refusal.specs.Lists.{firstFrom}
 use Rattle.refusal.specs.Result.{Result, refusal, ensure, ensureNone}
-use Rattle.operator.specs.declared.Word.{Word}
-use Rattle.operator.specs.Rules.{fits}
+use Rattle.arithmetic.specs.declared.Word.{Word}
+use Rattle.arithmetic.specs.Rules.{fits}
 use Rattle.constraint.specs.File.{Variable, File}
-use Rattle.judge.specs.Judge.{disregarded}
+use Rattle.judge.specs.Judge.{verdictDisregarded}
 
 -- the entries in use: a row of values, and its verdicts
 abbrev pub rowInUse : File → List ℕ → List ℕ
@@ -28,17 +28,17 @@ valuesRoom f n = ensure (leb (length (f .variables)) n) (refusal Values tooShort
 abbrev pub verdictsRoom : File → ℕ → Result (Unit {0})
 verdictsRoom f n = ensure (leb (length (f .lines)) n) (refusal Verdicts tooShort 0)
 
--- values, each at its variable's width
-unfoldable pub held : List Variable → List ℕ → List Word
-held = zipWith (λ x v. record { width = x .width; value = v })
+-- the values of a row, each at its variable's width
+unfoldable pub valueWords : List Variable → List ℕ → List Word
+valueWords = zipWith (λ x v. record { width = x .width; value = v })
 
--- the number of the first value that does not fit its variable
+-- the number of the first value of a row that does not fit its variable
 unfoldable pub firstUnfit : List Variable → List ℕ → Option ℕ
-firstUnfit xs values = firstFrom (λ w. not (fits w)) 0 (held xs values)
+firstUnfit xs row = firstFrom (λ w. not (fits w)) 0 (valueWords xs row)
 
 -- 24: "a held value doesn't fit, or a verdict above 2", at the "first such entry, from 0"
 abbrev pub valuesFit : File → List ℕ → Result (Unit {0})
-valuesFit f values = ensureNone (firstUnfit (f .variables) values) (refusal Values heldDoesNotFit)
+valuesFit f values = ensureNone (firstUnfit (f .variables) (rowInUse f values)) (refusal Values heldDoesNotFit)
 
 abbrev pub verdictsFit : File → List ℕ → Result (Unit {0})
-verdictsFit f verdicts = ensureNone (firstFrom (ltb disregarded) 0 (verdictsInUse f verdicts)) (refusal Verdicts heldDoesNotFit)
+verdictsFit f verdicts = ensureNone (firstFrom (ltb verdictDisregarded) 0 (verdictsInUse f verdicts)) (refusal Verdicts heldDoesNotFit)

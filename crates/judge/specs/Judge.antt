@@ -5,35 +5,35 @@ use mathlib.Core.List.{List, map}
 use mathlib.Core.Option.{Option, none, some}
 use lib.Dec.{eqb}
 use Rattle.refusal.specs.Lists.{firstFrom}
-use Rattle.operator.specs.Meaning.{meaning}
+use Rattle.arithmetic.specs.Meaning.{meaning}
 use Rattle.constraint.specs.declared.Line.{Line}
-use Rattle.constraint.specs.File.{Variable, File, word, target}
+use Rattle.constraint.specs.File.{Variable, File, operandWord, target}
 use Rattle.judge.specs.declared.Judged.{Judged}
 use Rattle.judge.specs.declared.Overall.{Overall}
 use Rattle.judge.specs.declared.Overall.the-variants.{Satisfied, Violated, Disregarded}
 
 -- "Verdict bytes: 1 holds, 0 violated, 2 disregarded"
-abbrev pub violated : ℕ
-violated = 0
+abbrev pub verdictViolated : ℕ
+verdictViolated = 0
 
-abbrev pub holds : ℕ
-holds = 1
+abbrev pub verdictHolds : ℕ
+verdictHolds = 1
 
-abbrev pub disregarded : ℕ
-disregarded = 2
+abbrev pub verdictDisregarded : ℕ
+verdictDisregarded = 2
 
 -- the result of a line, of the width of its target; missing where its divisor is zero. An accepted file's lines keep their rules, so under values that fit nothing else makes it missing (`ResultsAreThere`)
-unfoldable pub result : List Variable → List ℕ → Line → Option ℕ
-result xs row l = meaning (l .operator) (target xs row (l .output) .width) (word xs row (l .operands .first)) (word xs row (l .operands .second)) (word xs row (l .operands .third))
+unfoldable pub resultOf : List Variable → List ℕ → Line → Option ℕ
+resultOf xs row l = meaning (l .operator) (target xs row (l .output) .width) (operandWord xs row (l .operands .first)) (operandWord xs row (l .operands .second)) (operandWord xs row (l .operands .third))
 
 -- a result against what it must be: the verdict, and the result, 0 where there is none
 abbrev pub judged : Option ℕ → ℕ → Judged
-judged none goal = record { verdict = disregarded; result = 0 }
-judged (some r) goal = record { verdict = cond (eqb r goal) holds violated; result = r }
+judged none goal = record { verdict = verdictDisregarded; result = 0 }
+judged (some r) goal = record { verdict = cond (eqb r goal) verdictHolds verdictViolated; result = r }
 
 -- "A line holds if the result equals the output (`c`) or is 1 (`p`)"
 unfoldable pub judge : List Variable → List ℕ → Line → Judged
-judge xs row l = judged (result xs row l) (target xs row (l .output) .value)
+judge xs row l = judged (resultOf xs row l) (target xs row (l .output) .value)
 
 -- the verdicts on lines
 unfoldable pub verdictsOf : List Variable → List ℕ → List Line → List ℕ
@@ -53,5 +53,11 @@ overallBy (some n) other = Disregarded n
 overallBy none (some n) = Violated n
 overallBy none none = Satisfied
 
-unfoldable pub overall : List ℕ → Overall
-overall vs = overallBy (firstVerdict disregarded vs) (firstVerdict violated vs)
+unfoldable pub overallOf : List ℕ → Overall
+overallOf vs = overallBy (firstVerdict verdictDisregarded vs) (firstVerdict verdictViolated vs)
+
+-- the number of an overall verdict: "0 satisfied, 1 violated, 2 disregarded"
+abbrev pub overallNumber : Overall → ℕ
+overallNumber Satisfied = 0
+overallNumber (Violated n) = 1
+overallNumber (Disregarded n) = 2

@@ -1,4 +1,4 @@
 pub mod Judge
 pub mod InUse
 pub mod Claims
-pub mod Unnamed
+pub mod Fitting

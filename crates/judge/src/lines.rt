@@ -1,27 +1,29 @@
 // The verdict on a stored line, and on all of them.
 use super::Judged;
+use arithmetic::Word;
+use arithmetic::rules::I1;
 use constraint::Operand;
-use constraint::tables::TABLE_WORDS;
-use constraint::tables::first_of;
-use constraint::tables::operator_of;
-use constraint::tables::output_of;
-use constraint::tables::second_of;
-use constraint::tables::third_of;
-use constraint::typing::width_of;
 use edition::Edition;
-use operator::Applied;
-use operator::Word;
-use operator::evaluate::evaluate;
+use evaluation::Evaluated;
+use evaluation::evaluate;
+use store::lines::TABLE_WORDS;
+use store::lines::first_of;
+use store::lines::operator_of;
+use store::lines::output_of;
+use store::lines::second_of;
+use store::lines::third_of;
+use store::widths::width_of;
 ghost use mathlib.Core.Path.{_≡_};
 ghost use mathlib.Core.List.{_++_};
 ghost use Prim.Native.Nat.{_≤_, _<_};
 ghost use lib.ListN.{length, getD, drop};
 ghost use Rattle.edition.specs.Edition.{maxVariables, maxLines};
-ghost use Rattle.constraint.specs.File.{word as wordOf, target as targetOf};
-ghost use Rattle.constraint.specs.Tables.{tableWords, lineIn, linesIn};
-ghost use Rattle.constraint.specs.Claims.{Each};
+ghost use Rattle.constraint.specs.File.{operandWord as wordOf, target as targetOf};
+ghost use Rattle.store.specs.Tables.{tableWords, lineIn, linesIn};
+ghost use Rattle.constraint.specs.Sound.{Each};
 ghost use Rattle.judge.specs.Judge.{judge, verdictsOf};
-ghost use Rattle.judge.specs.Unnamed.{unnamed, Fitting};
+ghost use Rattle.store.specs.Tables.{unnamed};
+ghost use Rattle.judge.specs.Fitting.{Fitting};
 
 // The value of variable i, or 0.
 fn value_of(row: &[u64], i: usize) -> u64
@@ -51,7 +53,10 @@ fn target(widths: &[u64; Edition::VARIABLES], n: usize, row: &[u64], o: Operand)
     ensures { λ r. ⌜ r ≡ targetOf (unnamed (now (widths .entry)) n) (now (row .entry)) o ⌝ }
 {
     match o {
-        Operand::Absent => Word { width: 1, value: 1 },
+        Operand::Absent => Word {
+            width: I1,
+            value: 1,
+        },
         Operand::Var(_) => word(widths, n, row, o),
         Operand::Const(w) => w,
     }
@@ -74,7 +79,7 @@ pub fn judge_line<'a>(
     let c = word(widths, n, row, third_of(lines, k));
     let goal = target(widths, n, row, output_of(lines, k));
     match evaluate(op, goal.width, a, b, c) {
-        Applied::Value(result) => {
+        Evaluated::Value(result) => {
             if result == goal.value {
                 Judged {
                     verdict: Judged::HOLDS,
@@ -87,11 +92,7 @@ pub fn judge_line<'a>(
                 }
             }
         }
-        Applied::ZeroDivisor => Judged {
-            verdict: Judged::DISREGARDED,
-            result: 0,
-        },
-        Applied::Refused(_) => Judged {
+        Evaluated::ZeroDivisor => Judged {
             verdict: Judged::DISREGARDED,
             result: 0,
         },

@@ -1,10 +1,10 @@
 // The overall verdict of a table.
 use super::Judged;
 use super::Overall;
-use constraint::Found;
+use store::Found;
 ghost use mathlib.Core.Path.{_≡_};
-ghost use Rattle.constraint.specs.Answers.{place};
-ghost use Rattle.judge.specs.Judge.{firstVerdict, overall as overallOf};
+ghost use Rattle.store.specs.Tables.{place};
+ghost use Rattle.judge.specs.Judge.{firstVerdict, overallOf, overallNumber};
 
 // The line, from 1, of the first verdict v.
 fn first_verdict(verdicts: &[u8], v: u8) -> Found
@@ -30,5 +30,16 @@ pub fn overall(verdicts: &[u8]) -> Overall
             Found::At(n) => Overall::Violated(n),
             Found::Nowhere => Overall::Satisfied,
         },
+    }
+}
+
+// The number of an overall verdict.
+pub fn overall_number(overall: Overall) -> u8
+    ensures { λ r. ⌜ r ≡ overallNumber overall ⌝ }
+{
+    match overall {
+        Overall::Satisfied => 0,
+        Overall::Violated(_) => 1,
+        Overall::Disregarded(_) => 2,
     }
 }

@@ -1,11 +1,1 @@
-pub mod Rules
-pub mod Bits
-pub mod Signed
-pub mod Flags
-pub mod Arithmetic
-pub mod Meaning
 pub mod Apply
-pub mod Given
-pub mod Cases
-pub mod Claims
-pub mod Numbering

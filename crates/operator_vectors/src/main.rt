@@ -4,11 +4,11 @@
 // A vector has a fixed length and is hexadecimal: the operator's number, the result width, and the
 // operands, as in `10 08 08:0000000000000001 08:0000000000000080 00:0000000000000000`.
 ghost use Prim.Native.Nat.{_+_, _≤_};
+use arithmetic::Word;
+use arithmetic::numbering::numbered;
 use libc::STDIN_FILENO;
 use libc::STDOUT_FILENO;
 use operator::Applied;
-use operator::Word;
-use operator::numbering::numbered;
 
 // The bytes of a line, with its line end.
 const LINE: usize = 66;

@@ -1,62 +1,60 @@
-// What the check answers, printed as the scope document has it, and tables of verdicts.
-use judge::Overall;
-use libc::STDOUT_FILENO;
-use reporting::print_count;
-use tables::CheckReply;
-use tables::Report;
-use tables::Tally;
+// Text put into a lent room at a place: bytes and numbers. Each function answers where its text ends.
+ghost use mathlib.Core.Path.{_≡_};
+ghost use mathlib.Core.List.{[], _∷_};
+ghost use Prim.Native.Nat.{_+_, _<_, _≤_};
+ghost use lib.ListN.{length};
+ghost use Rattle.printing.specs.Digits.{digits, counted};
+ghost use Rattle.printing.specs.Places.{Put};
 
-// Prints the overall verdict, with no line end.
-pub fn print_overall(overall: Overall) {
-    match overall {
-        Overall::Satisfied => {
-            io::write_all(STDOUT_FILENO, b"satisfied");
-        }
-        Overall::Violated(n) => print_count(b"violated ", n),
-        Overall::Disregarded(n) => print_count(b"disregarded ", n),
-    }
+pub mod refusals;
+
+pub fn put_byte(b: u8, room: &mut [u8], at: usize) -> usize
+    requires { ⌜ at < length (now room) ⌝ }
+    ensures { λ r. ⌜ Put (b ∷ []) (now (room .entry)) at r (now (room .exit)) ⌝ }
+{
+    room[at] = b;
+    at + 1
 }
 
-fn print_tally(tally: Tally) {
-    print_count(b"lines ", tally.lines);
-    print_count(b" held ", tally.held);
-    print_count(b" violated ", tally.violated);
-    print_count(b" disregarded ", tally.disregarded);
-}
-
-// Prints a report: two lines, or the one line of a refusal.
-pub fn print_report(report: Report) {
-    match report {
-        Report::Judged(overall, tally) => {
-            print_overall(overall);
-            io::write_all(STDOUT_FILENO, b"\n");
-            print_tally(tally);
-        }
-        Report::Refused(refusal) => reporting::print_refusal(refusal),
-    }
-    io::write_all(STDOUT_FILENO, b"\n");
-}
-
-fn print_verdict(verdict: u8) {
-    io::print_decimal(STDOUT_FILENO, verdict as u64);
-    io::write_all(STDOUT_FILENO, b" ");
-}
-
-// Prints the entries of a table, a space behind each, and a line end.
-pub fn print_verdicts(verdicts: &[u8]) {
+pub fn put_bytes(bytes: &[u8], room: &mut [u8], at: usize) -> usize
+    requires { ⌜ at + length (now bytes) ≤ length (now room) ⌝ }
+    ensures { λ r. ⌜ Put (now (bytes .entry)) (now (room .entry)) at r (now (room .exit)) ⌝ }
+{
     let mut i = 0;
-    while i < verdicts.len() {
-        print_verdict(verdicts[i]);
+    while i < bytes.len() {
+        room[at + i] = bytes[i];
         i += 1;
     }
-    io::write_all(STDOUT_FILENO, b"\n");
+    at + i
 }
 
-// Prints the overall verdict or the refusal, and a line end.
-pub fn print_reply(reply: CheckReply) {
-    match reply {
-        CheckReply::Checked(overall) => print_overall(overall),
-        CheckReply::Refused(refusal) => reporting::print_refusal(refusal),
+// The value without its last digit, then its last digit.
+pub fn put_digits(v: u64, room: &mut [u8], at: usize) -> usize
+    requires { ⌜ at + length (digits v) ≤ length (now room) ⌝ }
+    ensures { λ r. ⌜ Put (digits v) (now (room .entry)) at r (now (room .exit)) ⌝ }
+{
+    if v < 10 {
+        return put_byte(b'0' + v as u8, room, at);
     }
-    io::write_all(STDOUT_FILENO, b"\n");
+    let last = put_digits(v / 10, room, at);
+    put_byte(b'0' + (v % 10) as u8, room, last)
+}
+
+// A word and a number behind it.
+pub fn put_count(word: &[u8], n: u64, room: &mut [u8], at: usize) -> usize
+    requires { ⌜ at + length (counted (now word) n) ≤ length (now room) ⌝ }
+    ensures { λ r. ⌜ Put (counted (now (word .entry)) n) (now (room .entry)) at r (now (room .exit)) ⌝ }
+{
+    let number = put_bytes(word, room, at);
+    put_digits(n, room, number)
+}
+
+// How many digits a value has.
+pub fn digit_count(v: u64) -> usize
+    ensures { λ r. ⌜ r ≡ length (digits v) ⌝ }
+{
+    if v < 10 {
+        return 1;
+    }
+    digit_count(v / 10) + 1
 }

@@ -1,6 +1,7 @@
 -- Tests that are joined by `&&`. Assumes nothing.
-use mathlib.Core.Path.{_≡_, refl}
-use mathlib.Core.Bool.{Bool, true, false, _&&_, _||_}
+use mathlib.Core.Path.{_≡_, refl, sym, _∙_}
+use mathlib.Core.Bool.{Bool, true, false, not, _&&_, _||_}
+use borrow.Author.Tests.{not-true, not-false}
 use Rattle.refusal.proofs.ResultLaws.{never}
 
 -- both of two tests pass
@@ -34,3 +35,10 @@ fails false h = refl
 pub either : {A : Type 0} (x y : Bool) → (x ≡ true → A) → (y ≡ true → A) → (x || y) ≡ true → A
 either true y f g e = f refl
 either false y f g e = g e
+
+-- the result r of a test t, where `if !r` was passed over or taken
+pub passed : {r t : Bool} → r ≡ t → not r ≡ false → t ≡ true
+passed {r} e h = sym e ∙ not-false r h
+
+pub failed : {r t : Bool} → r ≡ t → not r ≡ true → t ≡ false
+failed {r} e h = sym e ∙ not-true r h

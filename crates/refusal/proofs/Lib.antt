@@ -3,3 +3,4 @@ pub mod ResultLaws
 pub mod ListLaws
 pub mod BoolLaws
 pub mod RefusesLaws
+pub mod EndsLaws

@@ -7,9 +7,11 @@ use mathlib.Core.Option.{Option, none, some}
 use native.Mathlib.Nat.{add-zero}
 use native.Mathlib.Numerals.{add-one}
 use native.Mathlib.Omega.{arith}
+use lib.Dec.{eqb}
 use lib.ListN.{length, getD, drop, drop-of-length-le}
 use lib.Seq.{drop-cons}
-use Rattle.refusal.specs.Lists.{firstFrom, isThere, every}
+use borrow.Author.Tests.{eqb-true}
+use Rattle.refusal.specs.Lists.{firstFrom, isThere, every, isOneOf}
 use Rattle.refusal.proofs.ResultLaws.{never}
 use Rattle.refusal.proofs.BoolLaws.{and-false, and-true}
 
@@ -110,3 +112,19 @@ pub every-broken : {A : Type 0} (p : A → Bool) (s : List A) (a : A) (t : List 
 unfolding every
 every-broken p [] a t e = rw e
 every-broken p (b ∷ s) a t e = rw (every-broken p s a t e, and-false)
+
+-- a number of a list passes a test that all of them pass
+passes-by : (test : ℕ → Bool) (n m k : ℕ) (t : Bool) (rest : Option ℕ) → eqb n m ≡ t → test m ≡ true → (isThere rest ≡ true → test n ≡ true) → isThere (cond t (some k) rest) ≡ true → test n ≡ true
+passes-by test n m k true rest q h later e = rw (eqb-true n m q) h
+passes-by test n m k false rest q h later e = later e
+
+found-passes : (test : ℕ → Bool) (n k : ℕ) (ns : List ℕ) → every test ns ≡ true → isThere (firstFrom (eqb n) k ns) ≡ true → test n ≡ true
+unfolding every firstFrom
+found-passes test n k [] h e = never (cc e)
+found-passes test n k (m ∷ ns) h e =
+    let p = and-true (test m) (every test ns) h in
+    passes-by test n m k (eqb n m) (firstFrom (eqb n) (suc k) ns) refl (p .0) (found-passes test n (suc k) ns (p .1)) e
+
+pub one-passes : (test : ℕ → Bool) (n : ℕ) (ns : List ℕ) → every test ns ≡ true → isOneOf n ns ≡ true → test n ≡ true
+unfolding isOneOf
+one-passes test n ns = found-passes test n 0 ns

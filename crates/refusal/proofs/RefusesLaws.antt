@@ -1,9 +1,10 @@
 -- What holds of a result's refusal, step by step of a `do` block. Assumes nothing.
+use Prim.Native.Nat.{ℕ}
 use mathlib.Core.Path.{_≡_, refl, subst}
 use mathlib.Core.Bool.{Bool, true, false, cond}
 use mathlib.Core.Option.{Option, none, some}
 use Rattle.refusal.specs.declared.Refusal.{Refusal}
-use Rattle.refusal.specs.Result.{Result, accepted, refused, ensure, given, _>>=_, _>>_}
+use Rattle.refusal.specs.Result.{Result, accepted, refused, ensure, ensureNone, given, _>>=_, _>>_}
 use Rattle.refusal.proofs.ResultLaws.{never}
 
 -- P holds of the refusal of r, where r is refused
@@ -45,3 +46,17 @@ module _ {P : Refusal → Type 0} {B : Type 0} where
   pub refuses-given : {A : Type 0} (o : Option A) (r : Refusal) {next : A → Result B} → P r → ((a : A) → Refuses P (next a)) → Refuses P (given o r >>= next)
   refuses-given (some a) r h n = n a
   refuses-given none r h n = refuses-refused h
+
+-- the last step: a test, and no fault
+module _ {P : Refusal → Type 0} where
+  pub refuses-test : (t : Bool) (r : Refusal) → P r → Refuses P (ensure t r)
+  refuses-test true r h = refuses-accepted
+  refuses-test false r h = refuses-refused h
+
+  pub refuses-none : (o : Option ℕ) (r : ℕ → Refusal) → ((i : ℕ) → o ≡ some i → P (r i)) → Refuses P (ensureNone o r)
+  refuses-none none r h = refuses-accepted
+  refuses-none (some i) r h = refuses-refused (h i refl)
+
+-- what follows from what holds of the refusal
+pub refuses-also : {P Q : Refusal → Type 0} {A : Type 0} {r : Result A} → ((x : Refusal) → P x → Q x) → Refuses P r → Refuses Q r
+refuses-also f h = record { holds = λ x e. f x (h .holds x e) }

@@ -5,8 +5,10 @@ ghost use lib.ListN.{length, take, drop};
 ghost use Rattle.reporting.specs.Hex.{digitValue, hexAfter};
 use libc::STDIN_FILENO;
 use libc::STDOUT_FILENO;
+use printing::refusals::put_refusal;
 use refusal::Refusal;
-use refusal::Subject;
+
+pub mod cases;
 
 // What stands in a table before a call: each entry is this much more than the one before it.
 const STEP: u64 = 1000003;
@@ -39,22 +41,14 @@ pub fn print_count(word: &[u8], n: usize) {
     io::print_decimal(STDOUT_FILENO, n as u64);
 }
 
-fn print_subject(subject: Subject) {
-    let label = subject.word();
-    let bytes = label.bytes;
-    let len = label.len;
-    io::write_all(STDOUT_FILENO, &bytes[..len]);
-}
+// Room for the text of any refusal: its words, and two numbers of 20 digits.
+const REFUSAL_BYTES: usize = 60;
 
-// Prints a refusal as in `refused 15 constraint 32`, with no line end.
+// Prints a refusal, with no line end.
 pub fn print_refusal(refusal: Refusal) {
-    io::write_all(STDOUT_FILENO, b"refused ");
-    io::print_decimal(STDOUT_FILENO, refusal.number as u64);
-    io::write_all(STDOUT_FILENO, b" ");
-    let subject = refusal.subject;
-    print_subject(subject);
-    io::write_all(STDOUT_FILENO, b" ");
-    io::print_decimal(STDOUT_FILENO, refusal.position as u64);
+    let mut room = [0u8; REFUSAL_BYTES];
+    let n = put_refusal(refusal, &mut room, 0);
+    io::write_all(STDOUT_FILENO, &room[..n]);
 }
 
 // Fills the bytes from standard input; false where it is too short.

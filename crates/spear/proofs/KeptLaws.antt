@@ -4,36 +4,38 @@ use mathlib.Core.Path.{_≡_, refl}
 use mathlib.Core.List.{List}
 use native.Mathlib.Omega.{arith}
 use lib.ListN.{length, getD, set, length-take}
-use Rattle.edition.specs.Edition.{maxWidth}
+use lib.Seq.{length-take-le}
+use Rattle.edition.specs.Word.{wordBits}
 use Rattle.refusal.specs.Result.{Result, accepted, refused}
+use Rattle.arithmetic.proofs.PlaceLaws.{bits-most}
 use Rattle.constraint.specs.File.{File}
 use Rattle.constraint.specs.Read.{readFile}
-use Rattle.constraint.specs.Claims.{SoundFile}
+use Rattle.constraint.specs.Sound.{SoundFile}
 use Rattle.constraint.proofs.SoundLaws.{accepted-is-sound}
 use Rattle.judge.specs.declared.Overall.{Overall}
 use Rattle.judge.specs.declared.Overall.the-variants.{Satisfied, Violated, Disregarded}
-use Rattle.judge.specs.Judge.{freshVerdicts, overall}
+use Rattle.judge.specs.Judge.{freshVerdicts, overallOf}
 use Rattle.judge.specs.InUse.{rowInUse, verdictsInUse}
 use Rattle.judge.proofs.VerdictLaws.{verdicts-length}
 use Rattle.judge.proofs.OverallLaws.{Named, overall-named}
 use Rattle.tables.specs.Check.{checking, checked, checkOutcome}
-use Rattle.tables.specs.Change.{names, renewed, changingFor, accept, changed, changeBy, changeOutcome}
+use Rattle.moves.specs.Change.{names, renewed, changingFor, accept, changed, changeBy, changeOutcome}
 use Rattle.tables.proofs.CheckingLaws.{checking-steps}
-use Rattle.tables.proofs.RenewLaws.{renewed-length}
-use Rattle.tables.proofs.GateLaws.{Passed, changing-passed}
-use Rattle.spear.specs.Pack.{lineOf, CheckKept, ChangeKept}
+use Rattle.moves.proofs.RenewLaws.{renewed-length}
+use Rattle.moves.proofs.GateLaws.{Passed, changing-passed}
+use Rattle.spear.specs.Pack.{decidingLine, CheckKept, ChangeKept}
 use Rattle.spear.proofs.PackLaws.{CheckFits, ChangeFits, check-back, change-back}
-use Rattle.spear.proofs.MostLaws.{many-most, differing-most, bits-most}
+use Rattle.spear.proofs.MostLaws.{many-most, differing-most}
 use Rattle.spear.proofs.RefusalFitsLaws.{file-fits, checking-fits, changing-fits}
 
 -- ---- the line of an overall verdict
-named-most : (o : Overall) (vs : List ℕ) → Named o vs → lineOf o ≤ length vs
+named-most : (o : Overall) (vs : List ℕ) → Named o vs → decidingLine o ≤ length vs
 named-most Satisfied vs p = omega arith
 named-most (Violated n) vs p = p .to
 named-most (Disregarded n) vs p = p .to
 
-line-most : (vs : List ℕ) → lineOf (overall vs) ≤ length vs
-line-most vs = named-most (overall vs) vs (overall-named vs)
+line-most : (vs : List ℕ) → decidingLine (overallOf vs) ≤ length vs
+line-most vs = named-most (overallOf vs) vs (overall-named vs)
 
 -- ---- the check
 module _ (constraint answer values verdicts : List ℕ) where
@@ -53,12 +55,12 @@ module _ (values verdicts : List ℕ) (i v : ℕ) where
   accept-fits f sound p =
       let row = rowInUse f values in
       let before = verdictsInUse f verdicts in
-      let after = renewed f (set row i v) i verdicts in
+      let after = renewed f (set row i v) i before in
       record {
-        line = omega (arith, line-most after, renewed-length f (set row i v) i verdicts (p .verdicts-room), sound .few-lines);
+        line = omega (arith, line-most after, renewed-length f (set row i v) i before (length-take-le (length (f .lines)) verdicts (p .verdicts-room)), sound .few-lines);
         named = omega (arith, many-most (names i) (f .lines), sound .few-lines);
         altered = omega (arith, differing-most before after, length-take (length (f .lines)) verdicts, sound .few-lines);
-        bits = omega (arith, bits-most maxWidth (getD row i 0) v);
+        bits = omega (arith, bits-most wordBits (getD row i 0) v);
       }
 
   changed-fits : (f : File) → SoundFile f → (r : Result (Unit {0})) → changingFor f values verdicts i v ≡ r → ChangeFits (changed f values verdicts i v r .reply)

@@ -1,9 +1,7 @@
 -- Laws that belong to no one function.
 pub mod PackLaws
-pub mod EndsLaws
-pub mod WithinLaws
-pub mod FileWithinLaws
-pub mod AnswerWithinLaws
+pub mod FileNumberLaws
 pub mod MostLaws
 pub mod RefusalFitsLaws
 pub mod KeptLaws
+pub mod CodeLaws

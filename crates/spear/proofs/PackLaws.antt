@@ -9,52 +9,53 @@ use Rattle.refusal.specs.declared.Subject.{Subject}
 use Rattle.refusal.specs.declared.Subject.the-variants.{Constraint, Answer, Values, Verdicts, Output, Call}
 use Rattle.judge.specs.declared.Overall.{Overall}
 use Rattle.judge.specs.declared.Overall.the-variants.{Satisfied, Violated, Disregarded}
-use Rattle.tables.specs.declared.Effect.{Effect}
+use Rattle.judge.specs.Judge.{overallNumber}
+use Rattle.moves.specs.declared.Effect.{Effect}
 use Rattle.tables.specs.declared.CheckReply.{CheckReply}
 use Rattle.tables.specs.declared.CheckReply.the-variants.{Checked, Refused as CheckRefused}
-use Rattle.tables.specs.declared.ChangeReply.{ChangeReply}
-use Rattle.tables.specs.declared.ChangeReply.the-variants.{Changed, Refused}
-use Rattle.spear.specs.Pack.{verdictWord, refusalWord, kindOf, lineOf, numberOf, packRefusal, packCheck, packChange, part, overallIn, subjectIn, refusalIn, checkIn, changeIn}
+use Rattle.moves.specs.declared.ChangeReply.{ChangeReply}
+use Rattle.moves.specs.declared.ChangeReply.the-variants.{Changed, Refused}
+use Rattle.spear.specs.Pack.{verdictWord, refusalWord, decidingLine, subjectNumber, packRefusal, packCheck, packChange, bitsFrom, overallIn, subjectIn, refusalIn, checkIn, changeIn}
 
 -- ---- the parts of a word are the numbers it was made of
 pub record VerdictParts (word kind line named altered bits : ℕ) : Type 0 where
-  pub kind-in : part word 0 8 ≡ kind
-  pub line-in : part word 8 16 ≡ line
-  pub named-in : part word 24 16 ≡ named
-  pub altered-in : part word 40 16 ≡ altered
-  pub bits-in : part word 56 8 ≡ bits
+  pub kind-in : bitsFrom word 0 8 ≡ kind
+  pub line-in : bitsFrom word 8 16 ≡ line
+  pub named-in : bitsFrom word 24 16 ≡ named
+  pub altered-in : bitsFrom word 40 16 ≡ altered
+  pub bits-in : bitsFrom word 56 8 ≡ bits
 
 pub verdict-parts : (kind line named altered bits : ℕ) → kind < 3 → line < 2 ^ 16 → named < 2 ^ 16 → altered < 2 ^ 16 → bits < 2 ^ 8 → VerdictParts (verdictWord kind line named altered bits) kind line named altered bits
 unfolding verdictWord
 verdict-parts kind line named altered bits k l n a b = record { kind-in = omega arith; line-in = omega arith; named-in = omega arith; altered-in = omega arith; bits-in = omega arith }
 
 pub record RefusalParts (word number subject position : ℕ) : Type 0 where
-  pub kind-in : part word 0 8 ≡ 3
-  pub number-in : part word 8 8 ≡ number
-  pub subject-in : part word 16 8 ≡ subject
-  pub position-in : part word 24 40 ≡ position
+  pub kind-in : bitsFrom word 0 8 ≡ 3
+  pub number-in : bitsFrom word 8 8 ≡ number
+  pub subject-in : bitsFrom word 16 8 ≡ subject
+  pub position-in : bitsFrom word 24 40 ≡ position
 
 pub refusal-parts : (number subject position : ℕ) → number < 2 ^ 8 → subject < 2 ^ 8 → position < 2 ^ 40 → RefusalParts (refusalWord number subject position) number subject position
 unfolding refusalWord
 refusal-parts number subject position n s p = record { kind-in = omega arith; number-in = omega arith; subject-in = omega arith; position-in = omega arith }
 
--- ---- an overall verdict by its kind and its line, a subject by its number
-kind-small : (o : Overall) → kindOf o < 3
-kind-small Satisfied = omega arith
-kind-small (Violated n) = omega arith
-kind-small (Disregarded n) = omega arith
+-- ---- an overall verdict by its number and its line, a subject by its number
+pub overall-small : (o : Overall) → overallNumber o < 3
+overall-small Satisfied = omega arith
+overall-small (Violated n) = omega arith
+overall-small (Disregarded n) = omega arith
 
-overall-back : (o : Overall) (word : ℕ) → part word 0 8 ≡ kindOf o → part word 8 16 ≡ lineOf o → overallIn word ≡ o
+overall-back : (o : Overall) (word : ℕ) → bitsFrom word 0 8 ≡ overallNumber o → bitsFrom word 8 16 ≡ decidingLine o → overallIn word ≡ o
 overall-back Satisfied word k l = rw k
 overall-back (Violated n) word k l = rw (k, l)
 overall-back (Disregarded n) word k l = rw (k, l)
 
-no-refusal : {A : Type 0} (o : Overall) (word : ℕ) (x y : A) → part word 0 8 ≡ kindOf o → cond (eqb (part word 0 8) 3) x y ≡ y
+no-refusal : {A : Type 0} (o : Overall) (word : ℕ) (x y : A) → bitsFrom word 0 8 ≡ overallNumber o → cond (eqb (bitsFrom word 0 8) 3) x y ≡ y
 no-refusal Satisfied word x y k = rw k
 no-refusal (Violated n) word x y k = rw k
 no-refusal (Disregarded n) word x y k = rw k
 
-subject-small : (s : Subject) → numberOf s < 2 ^ 8
+subject-small : (s : Subject) → subjectNumber s < 2 ^ 8
 subject-small Constraint = omega arith
 subject-small Answer = omega arith
 subject-small Values = omega arith
@@ -62,7 +63,7 @@ subject-small Verdicts = omega arith
 subject-small Output = omega arith
 subject-small Call = omega arith
 
-subject-back : (s : Subject) → subjectIn (numberOf s) ≡ s
+subject-back : (s : Subject) → subjectIn (subjectNumber s) ≡ s
 subject-back Constraint = refl
 subject-back Answer = refl
 subject-back Values = refl
@@ -76,21 +77,21 @@ pub record RefusalFits (r : Refusal) : Type 0 where
   pub position : r .position < 2 ^ 40
 
 module _ (r : Refusal) (h : RefusalFits r) where
-  parts : RefusalParts (packRefusal r) (r .number) (numberOf (r .subject)) (r .position)
-  parts = refusal-parts (r .number) (numberOf (r .subject)) (r .position) (h .number) (subject-small (r .subject)) (h .position)
+  parts : RefusalParts (packRefusal r) (r .number) (subjectNumber (r .subject)) (r .position)
+  parts = refusal-parts (r .number) (subjectNumber (r .subject)) (r .position) (h .number) (subject-small (r .subject)) (h .position)
 
   refusal-back : refusalIn (packRefusal r) ≡ r
   refusal-back = rw (parts .number-in, parts .subject-in, parts .position-in, subject-back (r .subject))
 
 -- ---- a reply in range
 pub record EffectFits (e : Effect) : Type 0 where
-  pub line : lineOf (e .overall) < 2 ^ 16
+  pub line : decidingLine (e .overall) < 2 ^ 16
   pub named : e .named < 2 ^ 16
   pub altered : e .altered < 2 ^ 16
   pub bits : e .bits < 2 ^ 8
 
 abbrev pub CheckFits : CheckReply → Type 0
-CheckFits (Checked o) = lineOf o < 2 ^ 16
+CheckFits (Checked o) = decidingLine o < 2 ^ 16
 CheckFits (CheckRefused r) = RefusalFits r
 
 abbrev pub ChangeFits : ChangeReply → Type 0
@@ -101,7 +102,7 @@ ChangeFits (Refused r) = RefusalFits r
 pub check-back : (reply : CheckReply) → CheckFits reply → checkIn (packCheck reply) ≡ reply
 check-back (Checked o) h =
     let word = packCheck (Checked o) in
-    let p = verdict-parts (kindOf o) (lineOf o) 0 0 0 (kind-small o) h (omega arith) (omega arith) (omega arith) in
+    let p = verdict-parts (overallNumber o) (decidingLine o) 0 0 0 (overall-small o) h (omega arith) (omega arith) (omega arith) in
     no-refusal o word _ _ (p .kind-in) ∙ ap Checked (overall-back o word (p .kind-in) (p .line-in))
 check-back (CheckRefused r) h = rw (parts r h .kind-in) (ap CheckRefused (refusal-back r h))
 
@@ -109,6 +110,6 @@ pub change-back : (reply : ChangeReply) → ChangeFits reply → changeIn (packC
 change-back (Changed e) h =
     let word = packChange (Changed e) in
     let o = e .overall in
-    let p = verdict-parts (kindOf o) (lineOf o) (e .named) (e .altered) (e .bits) (kind-small o) (h .line) (h .named) (h .altered) (h .bits) in
+    let p = verdict-parts (overallNumber o) (decidingLine o) (e .named) (e .altered) (e .bits) (overall-small o) (h .line) (h .named) (h .altered) (h .bits) in
     no-refusal o word _ _ (p .kind-in) ∙ rw (overall-back o word (p .kind-in) (p .line-in), p .named-in, p .altered-in, p .bits-in)
 change-back (Refused r) h = rw (parts r h .kind-in) (ap Refused (refusal-back r h))

@@ -8,15 +8,16 @@ use Rattle.refusal.specs.declared.Refusal.{Refusal}
 use Rattle.refusal.specs.declared.Subject.{Subject}
 use Rattle.refusal.specs.declared.Subject.the-variants.{Constraint, Answer, Values, Verdicts, Output, Call}
 use Rattle.refusal.specs.Result.{refusal}
+use Rattle.judge.specs.Judge.{overallNumber}
 use Rattle.judge.specs.declared.Overall.{Overall}
 use Rattle.judge.specs.declared.Overall.the-variants.{Satisfied, Violated, Disregarded}
-use Rattle.tables.specs.declared.Effect.{Effect}
+use Rattle.moves.specs.declared.Effect.{Effect}
 use Rattle.tables.specs.declared.CheckReply.{CheckReply}
 use Rattle.tables.specs.declared.CheckReply.the-variants.{Checked, Refused as CheckRefused}
-use Rattle.tables.specs.declared.ChangeReply.{ChangeReply}
-use Rattle.tables.specs.declared.ChangeReply.the-variants.{Changed, Refused}
+use Rattle.moves.specs.declared.ChangeReply.{ChangeReply}
+use Rattle.moves.specs.declared.ChangeReply.the-variants.{Changed, Refused}
 use Rattle.tables.specs.Check.{CheckOutcome, checkOutcome}
-use Rattle.tables.specs.Change.{ChangeOutcome, changeOutcome}
+use Rattle.moves.specs.Change.{ChangeOutcome, changeOutcome}
 
 -- PACKING
 
@@ -28,64 +29,59 @@ verdictWord kind line named altered bits = kind + line % 2 ^ 16 * 2 ^ 8 + named 
 unfoldable pub refusalWord : ℕ → ℕ → ℕ → ℕ
 refusalWord number subject position = 3 + number % 2 ^ 8 * 2 ^ 8 + subject % 2 ^ 8 * 2 ^ 16 + position % 2 ^ 40 * 2 ^ 24
 
--- the kind of a verdict, the same as in `spear_check`, and its line, 0 where it names none
-abbrev pub kindOf : Overall → ℕ
-kindOf Satisfied = 0
-kindOf (Violated n) = 1
-kindOf (Disregarded n) = 2
-
-abbrev pub lineOf : Overall → ℕ
-lineOf Satisfied = 0
-lineOf (Violated n) = n
-lineOf (Disregarded n) = n
+-- the line of a verdict, 0 where it names none
+abbrev pub decidingLine : Overall → ℕ
+decidingLine Satisfied = 0
+decidingLine (Violated n) = n
+decidingLine (Disregarded n) = n
 
 -- what a refusal speaks of, by number
-abbrev pub numberOf : Subject → ℕ
-numberOf Constraint = 0
-numberOf Answer = 1
-numberOf Values = 2
-numberOf Verdicts = 3
-numberOf Output = 4
-numberOf Call = 5
+abbrev pub subjectNumber : Subject → ℕ
+subjectNumber Constraint = 0
+subjectNumber Answer = 1
+subjectNumber Values = 2
+subjectNumber Verdicts = 3
+subjectNumber Output = 4
+subjectNumber Call = 5
 
 abbrev pub packRefusal : Refusal → ℕ
-packRefusal r = refusalWord (r .number) (numberOf (r .subject)) (r .position)
+packRefusal r = refusalWord (r .number) (subjectNumber (r .subject)) (r .position)
 
 abbrev pub packCheck : CheckReply → ℕ
-packCheck (Checked o) = verdictWord (kindOf o) (lineOf o) 0 0 0
+packCheck (Checked o) = verdictWord (overallNumber o) (decidingLine o) 0 0 0
 packCheck (CheckRefused r) = packRefusal r
 
 abbrev pub packChange : ChangeReply → ℕ
-packChange (Changed e) = verdictWord (kindOf (e .overall)) (lineOf (e .overall)) (e .named) (e .altered) (e .bits)
+packChange (Changed e) = verdictWord (overallNumber (e .overall)) (decidingLine (e .overall)) (e .named) (e .altered) (e .bits)
 packChange (Refused r) = packRefusal r
 
 -- UNPACKING, as the macros of the header do it
 
 -- the n bits of a word from bit i on
-abbrev pub part : ℕ → ℕ → ℕ → ℕ
-part word i n = word / 2 ^ i % 2 ^ n
+abbrev pub bitsFrom : ℕ → ℕ → ℕ → ℕ
+bitsFrom word i n = word / 2 ^ i % 2 ^ n
 
 abbrev pub overallIn : ℕ → Overall
-overallIn word = cond (eqb (part word 0 8) 0) Satisfied (cond (eqb (part word 0 8) 1) (Violated (part word 8 16)) (Disregarded (part word 8 16)))
+overallIn word = cond (eqb (bitsFrom word 0 8) 0) Satisfied (cond (eqb (bitsFrom word 0 8) 1) (Violated (bitsFrom word 8 16)) (Disregarded (bitsFrom word 8 16)))
 
 abbrev pub subjectIn : ℕ → Subject
 subjectIn n = cond (eqb n 0) Constraint (cond (eqb n 1) Answer (cond (eqb n 2) Values (cond (eqb n 3) Verdicts (cond (eqb n 4) Output Call))))
 
 abbrev pub refusalIn : ℕ → Refusal
-refusalIn word = refusal (subjectIn (part word 16 8)) (part word 8 8) (part word 24 40)
+refusalIn word = refusal (subjectIn (bitsFrom word 16 8)) (bitsFrom word 8 8) (bitsFrom word 24 40)
 
 abbrev pub effectIn : ℕ → Effect
-effectIn word = record { overall = overallIn word; named = part word 24 16; altered = part word 40 16; bits = part word 56 8 }
+effectIn word = record { overall = overallIn word; named = bitsFrom word 24 16; altered = bitsFrom word 40 16; bits = bitsFrom word 56 8 }
 
 abbrev pub checkIn : ℕ → CheckReply
-checkIn word = cond (eqb (part word 0 8) 3) (CheckRefused (refusalIn word)) (Checked (overallIn word))
+checkIn word = cond (eqb (bitsFrom word 0 8) 3) (CheckRefused (refusalIn word)) (Checked (overallIn word))
 
 abbrev pub changeIn : ℕ → ChangeReply
-changeIn word = cond (eqb (part word 0 8) 3) (Refused (refusalIn word)) (Changed (effectIn word))
+changeIn word = cond (eqb (bitsFrom word 0 8) 3) (Refused (refusalIn word)) (Changed (effectIn word))
 
 -- NOTHING IS LOST
 
--- "proved to lose nothing": what a call answers is what its word unpacks to
+-- what a call answers is what its word unpacks to
 abbrev pub CheckKept : Type 0
 CheckKept = (constraint answer values verdicts : List ℕ) → checkIn (packCheck (checkOutcome constraint answer values verdicts .reply)) ≡ checkOutcome constraint answer values verdicts .reply
 

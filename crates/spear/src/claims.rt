@@ -1,5 +1,16 @@
 // The claims: each is the contract of an empty function, so that a check lists it by name.
+ghost use Rattle.spear.specs.Code.{ZeroExactly, CodesAre};
 ghost use Rattle.spear.specs.Pack.{CheckKept, ChangeKept};
+
+// Demand 2: the number of a check is 0 exactly when its conditions hold.
+pub fn zero_exactly()
+    ensures { λ _. ⌜ ZeroExactly ⌝ }
+{}
+
+// It is 0, 1, 2 or 101 to 120, for any bytes.
+pub fn codes_are()
+    ensures { λ _. ⌜ CodesAre ⌝ }
+{}
 
 // The word of a check loses nothing of its reply.
 pub fn check_kept()

@@ -1,44 +1,28 @@
 // The calls for C programs. include/spear.h has their declarations.
-use judge::Overall;
+use judge::verdicts::overall_number;
+use moves::change::change;
 use packing::pack_change;
 use packing::pack_check;
 use tables::Report;
-use tables::change::change;
 use tables::check::check;
 use tables::reports::report;
 ghost use mathlib.Core.Path.{_≡_};
 ghost use Rattle.tables.specs.Check.{checkOutcome};
-ghost use Rattle.tables.specs.Change.{changeOutcome};
-ghost use Rattle.spear.specs.Code.{codeOfOverall, codeOf, checkCode};
+ghost use Rattle.moves.specs.Change.{changeOutcome};
+ghost use Rattle.spear.specs.Code.{codeOf, checkCode};
 ghost use Rattle.spear.specs.Pack.{packedCheck, packedChange};
 
 pub mod claims;
 mod packing;
 
-const SATISFIED: u32 = 0;
-
-const VIOLATED: u32 = 1;
-
-const DISREGARDED: u32 = 2;
-
 // What is added to a refusal's number.
 const REFUSED: u32 = 100;
-
-fn code_of_overall(overall: Overall) -> u32
-    ensures { λ r. ⌜ r ≡ codeOfOverall overall ⌝ }
-{
-    match overall {
-        Overall::Satisfied => SATISFIED,
-        Overall::Violated(_) => VIOLATED,
-        Overall::Disregarded(_) => DISREGARDED,
-    }
-}
 
 fn code_of(report: Report) -> u32
     ensures { λ r. ⌜ r ≡ codeOf report ⌝ }
 {
     match report {
-        Report::Judged(overall, _) => code_of_overall(overall),
+        Report::Judged(overall, _) => overall_number(overall) as u32,
         Report::Refused(refusal) => REFUSED + refusal.number as u32,
     }
 }

@@ -1,12 +1,13 @@
 // A reply as one word.
 use judge::Overall;
+use judge::verdicts::overall_number;
+use moves::ChangeReply;
 use refusal::Refusal;
 use refusal::Subject;
-use tables::ChangeReply;
 use tables::CheckReply;
 ghost use mathlib.Core.Path.{_≡_};
 ghost use Prim.Native.Nat.{_<_};
-ghost use Rattle.spear.specs.Pack.{verdictWord, refusalWord, kindOf, lineOf, numberOf, packRefusal, packCheck, packChange};
+ghost use Rattle.spear.specs.Pack.{verdictWord, refusalWord, decidingLine, subjectNumber, packRefusal, packCheck, packChange};
 
 // The sizes of the parts: a byte, a number, a position.
 const BYTE: u64 = 1 << 8;
@@ -46,18 +47,8 @@ fn refusal_word(number: u64, subject: u64, position: u64) -> u64
     REFUSED + number % BYTE * AT_8 + subject % BYTE * AT_16 + position % POSITION * AT_24
 }
 
-fn kind(overall: Overall) -> u64
-    ensures { λ r. ⌜ (r ≡ kindOf overall) × (r < 256) ⌝ }
-{
-    match overall {
-        Overall::Satisfied => 0,
-        Overall::Violated(_) => 1,
-        Overall::Disregarded(_) => 2,
-    }
-}
-
 fn line(overall: Overall) -> u64
-    ensures { λ r. ⌜ r ≡ lineOf overall ⌝ }
+    ensures { λ r. ⌜ r ≡ decidingLine overall ⌝ }
 {
     match overall {
         Overall::Satisfied => 0,
@@ -67,7 +58,7 @@ fn line(overall: Overall) -> u64
 }
 
 fn number(subject: Subject) -> u64
-    ensures { λ r. ⌜ r ≡ numberOf subject ⌝ }
+    ensures { λ r. ⌜ r ≡ subjectNumber subject ⌝ }
 {
     match subject {
         Subject::Constraint => 0,
@@ -94,7 +85,7 @@ pub(crate) fn pack_check(reply: CheckReply) -> u64
     ensures { λ r. ⌜ r ≡ packCheck reply ⌝ }
 {
     match reply {
-        CheckReply::Checked(o) => verdict_word(kind(o), line(o), 0, 0, 0),
+        CheckReply::Checked(o) => verdict_word(overall_number(o) as u64, line(o), 0, 0, 0),
         CheckReply::Refused(r) => pack_refusal(r),
     }
 }
@@ -105,7 +96,13 @@ pub(crate) fn pack_change(reply: ChangeReply) -> u64
     match reply {
         ChangeReply::Changed(e) => {
             let o = e.overall;
-            verdict_word(kind(o), line(o), e.named as u64, e.altered as u64, e.bits)
+            verdict_word(
+                overall_number(o) as u64,
+                line(o),
+                e.named as u64,
+                e.altered as u64,
+                e.bits,
+            )
         }
         ChangeReply::Refused(r) => pack_refusal(r),
     }

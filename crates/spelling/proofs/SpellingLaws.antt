@@ -1,70 +1,67 @@
 -- The operator that a text spells, found by testing one spelling after the other. Assumes nothing.
-use Prim.Native.Nat.{ℕ, _≤_}
+use Prim.Native.Nat.{ℕ}
 use Prim.Native.String.{String}
-use mathlib.Core.Path.{_≡_, refl, ap₂, sym, _∙_}
+use mathlib.Core.Path.{_≡_, refl, ap, sym, _∙_}
 use mathlib.Core.Bool.{Bool, true, false, cond}
-use mathlib.Core.List.{List, [], _∷_, _++_, append-assoc}
-use mathlib.Core.Option.{none, some, orElse}
-use lib.ListN.{length, drop}
+use mathlib.Core.List.{List, [], _∷_, _++_}
+use mathlib.Core.Option.{Option, none, some, orElse}
 use Rattle.edition.specs.declared.Edition.{Edition}
 use Rattle.refusal.specs.Words.{ascii}
-use Rattle.operator.specs.declared.Operator.{Operator}
+use Rattle.arithmetic.specs.declared.Operator.{Operator}
 use Rattle.text.specs.Bytes.{same}
 use Rattle.spelling.specs.declared.Spelt.{Spelt}
 use Rattle.spelling.specs.declared.Spelt.the-variants.{Is, Unknown}
-use Rattle.spelling.specs.Operators.{bitwise, predicates, arithmetic, shiftsAndCasts, spellings, spelt, operatorNamed}
-use Rattle.spelling.specs.Answers.{spelling, earlier}
+use Rattle.spelling.specs.Operators.{bitwise, predicates, arithmetic, shiftsAndCasts, spellings, operatorSpelt, operatorNamed}
+use Rattle.spelling.specs.Internal.{spelling, earlier, ifWord}
 
--- the bytes from `at` on are none of the spellings xs that stand in front of `rest`
-pub record Left (xs rest : List (String × Operator)) : Type 0 where
-  pub text : List ℕ
-  pub at : ℕ
-  pub within : at ≤ length text
-  pub agrees : spelt (drop at text) xs ≡ spelt (drop at text) rest
+infixl 20 _then_
+-- of the spellings xs those in front of `rest` are tested, after others that gave `found`, and r is what they all gave
+pub record Tested (s : List ℕ) (found : Spelt) (xs rest : List (String × Operator)) (r : Spelt) : Type 0 where
+  pub agrees : orElse (spelling found) (operatorSpelt s xs) ≡ orElse (spelling r) (operatorSpelt s rest)
+
+-- with one test more, and with none
+one-more : (s : List ℕ) (w : String) (op : Operator) (rest : List (String × Operator)) (r : Spelt) (b : Bool) → same (ascii w) s ≡ b → orElse (spelling r) (operatorSpelt s ((w, op) ∷ rest)) ≡ orElse (spelling (earlier r (cond b (Is op) Unknown))) (operatorSpelt s rest)
+unfolding operatorSpelt orElse
+one-more s w op rest (Is found) b e = refl
+one-more s w op rest Unknown true e = rw e
+one-more s w op rest Unknown false e = rw e
+
+none-more : (r : Spelt) → orElse (spelling r) none ≡ spelling r
+unfolding orElse
+none-more (Is found) = refl
+none-more Unknown = refl
 
 -- before the first test
-abbrev pub untested : (xs : List (String × Operator)) (text : List ℕ) (at : ℕ) → at ≤ length text → Left xs xs
-untested xs text at h = record { text = text; at = at; within = h; agrees = refl }
+pub untested : (s : List ℕ) (found : Spelt) (xs : List (String × Operator)) → Tested s found xs xs found
+untested s found xs = record { agrees = refl }
 
-module _ {xs : List (String × Operator)} where
-  -- none of them
-  pub unknown : (l : Left xs []) → none ≡ spelt (drop (l .at) (l .text)) xs
-  unfolding spelt
-  unknown l = sym (l .agrees)
+module _ {s : List ℕ} {found : Spelt} {xs : List (String × Operator)} where
+  -- after one more
+  module _ {w : String} {op : Operator} {rest : List (String × Operator)} {r r₁ : Spelt} where
+    pub _then_ : Tested s found xs ((w, op) ∷ rest) r → r₁ ≡ earlier r (ifWord (ascii w) s op) → Tested s found xs rest r₁
+    _then_ t e = record { agrees = t .agrees ∙ one-more s w op rest r (same (ascii w) s) refl ∙ ap (λ (x : Spelt). orElse (spelling x) (operatorSpelt s rest)) (sym e) }
 
-  -- the next spelling, and whether it is the text
-  module _ {w : String} {op : Operator} {rest : List (String × Operator)} (l : Left xs ((w, op) ∷ rest)) {r : Bool} (e : r ≡ same (ascii w) (drop (l .at) (l .text))) where
-    pub found : r ≡ true → some op ≡ spelt (drop (l .at) (l .text)) xs
-    unfolding spelt
-    found k = sym (l .agrees ∙ rw (← e, k))
+  -- after the last
+  module _ {r : Spelt} where
+    pub all-tested : Tested s found xs [] r → spelling r ≡ orElse (spelling found) (operatorSpelt s xs)
+    unfolding operatorSpelt
+    all-tested t = sym (t .agrees ∙ none-more r)
 
-    pub still : r ≡ false → spelt (drop (l .at) (l .text)) xs ≡ spelt (drop (l .at) (l .text)) rest
-    unfolding spelt
-    still k = l .agrees ∙ rw (← e, k)
-
-    abbrev pub passed : r ≡ false → Left xs rest
-    passed k = record { text = l .text; at = l .at; within = l .within; agrees = still k }
-
--- of two lists, the first that has the text
-earlier-is : (a b : Spelt) → spelling (earlier a b) ≡ orElse (spelling a) (spelling b)
-unfolding orElse
-earlier-is (Is op) b = refl
-earlier-is Unknown b = refl
-
-spelt-append : (s : List ℕ) (xs ys : List (String × Operator)) → spelt s (xs ++ ys) ≡ orElse (spelt s xs) (spelt s ys)
-unfolding spelt orElse
+-- one list behind the other
+spelt-append : (s : List ℕ) (xs ys : List (String × Operator)) → operatorSpelt s (xs ++ ys) ≡ orElse (operatorSpelt s xs) (operatorSpelt s ys)
+unfolding operatorSpelt orElse
 spelt-append s [] ys = refl
 spelt-append s (x ∷ xs) ys = go (same (ascii (x .0)) s) (spelt-append s xs ys)
   where
-    go : (t : Bool) → spelt s (xs ++ ys) ≡ orElse (spelt s xs) (spelt s ys) → cond t (some (x .1)) (spelt s (xs ++ ys)) ≡ orElse (cond t (some (x .1)) (spelt s xs)) (spelt s ys)
+    go : (t : Bool) → operatorSpelt s (xs ++ ys) ≡ orElse (operatorSpelt s xs) (operatorSpelt s ys) → cond t (some (x .1)) (operatorSpelt s (xs ++ ys)) ≡ orElse (cond t (some (x .1)) (operatorSpelt s xs)) (operatorSpelt s ys)
     go true ih = refl
     go false ih = ih
 
 module _ (s : List ℕ) where
-  joined : (xs ys : List (String × Operator)) (a b : Spelt) → spelling a ≡ spelt s xs → spelling b ≡ spelt s ys → spelling (earlier a b) ≡ spelt s (xs ++ ys)
-  joined xs ys a b p q = earlier-is a b ∙ ap₂ orElse p q ∙ sym (spelt-append s xs ys)
+  appended : (xs ys : List (String × Operator)) (a b : Spelt) → spelling a ≡ operatorSpelt s xs → spelling b ≡ orElse (spelling a) (operatorSpelt s ys) → spelling b ≡ operatorSpelt s (xs ++ ys)
+  appended xs ys a b p q = q ∙ ap (λ (o : Option Operator). orElse o (operatorSpelt s ys)) p ∙ sym (spelt-append s xs ys)
 
   -- the operator, by the four lists
-  pub operator-is : (e : Edition) (a b c d : Spelt) → spelling a ≡ spelt s bitwise → spelling b ≡ spelt s predicates → spelling c ≡ spelt s arithmetic → spelling d ≡ spelt s shiftsAndCasts → spelling (earlier a (earlier b (earlier c d))) ≡ operatorNamed e s
-  unfolding spellings
-  operator-is e a b c d p q r t = simp append-assoc (joined _ _ a _ p (joined _ _ b _ q (joined _ _ c d r t)))
+  pub operator-is : (e : Edition) (a b c d : Spelt) → spelling a ≡ orElse (spelling Unknown) (operatorSpelt s bitwise) → spelling b ≡ orElse (spelling a) (operatorSpelt s predicates) → spelling c ≡ orElse (spelling b) (operatorSpelt s arithmetic) → spelling d ≡ orElse (spelling c) (operatorSpelt s shiftsAndCasts) → spelling d ≡ operatorNamed e s
+  unfolding spellings orElse
+  operator-is e a b c d p q r t = appended _ _ c d (appended _ _ b c (appended _ _ a b p q) r) t

@@ -1,2 +1,3 @@
 pub mod Operators
-pub mod Answers
+pub mod Internal
+pub mod Claims

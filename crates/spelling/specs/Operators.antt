@@ -1,18 +1,18 @@
 -- The operators' spellings, by edition.
 use Prim.Native.Nat.{ℕ}
 use Prim.Native.String.{String}
-use mathlib.Core.Bool.{Bool, cond}
+use mathlib.Core.Bool.{Bool, false, cond, _||_}
 use mathlib.Core.List.{List, [], _∷_, _++_}
 use mathlib.Core.Option.{Option, none, some}
 use Rattle.edition.specs.declared.Edition.{Edition}
-use Rattle.operator.specs.declared.Operator.{Operator}
-use Rattle.operator.specs.declared.Operator.the-variants.{Combine, Not, Implies, Compare, Ite, Compute, Divide, Move, Trun, Extend, Conc, Extr}
-use Rattle.operator.specs.declared.Bitwise.the-variants.{And, Or, Xor}
-use Rattle.operator.specs.declared.Comparison.the-variants.{Equal, NotEqual, Ule, Uge, Ult, Ugt, Sle, Sge, Slt, Sgt}
-use Rattle.operator.specs.declared.Arithmetic.the-variants.{Add, Sub, Mul}
-use Rattle.operator.specs.declared.Division.the-variants.{Udiv, Sdiv, Urem, Srem}
-use Rattle.operator.specs.declared.Shift.the-variants.{Shl, Ashr, Lshr}
-use Rattle.operator.specs.declared.Extension.the-variants.{Sext, Zext}
+use Rattle.arithmetic.specs.declared.Operator.{Operator}
+use Rattle.arithmetic.specs.declared.Operator.the-variants.{Combine, Not, Implies, Compare, Ite, Compute, Divide, Move, Trun, Extend, Conc, Extr}
+use Rattle.arithmetic.specs.declared.Bitwise.the-variants.{And, Or, Xor}
+use Rattle.arithmetic.specs.declared.Comparison.the-variants.{Equal, NotEqual, Ule, Uge, Ult, Ugt, Sle, Sge, Slt, Sgt}
+use Rattle.arithmetic.specs.declared.Arithmetic.the-variants.{Add, Sub, Mul}
+use Rattle.arithmetic.specs.declared.Division.the-variants.{Udiv, Sdiv, Urem, Srem}
+use Rattle.arithmetic.specs.declared.Shift.the-variants.{Shl, Ashr, Lshr}
+use Rattle.arithmetic.specs.declared.Extension.the-variants.{Sext, Zext}
 use Rattle.refusal.specs.Lists.{isThere}
 use Rattle.refusal.specs.Words.{ascii}
 use Rattle.text.specs.Bytes.{same}
@@ -45,14 +45,25 @@ unfoldable pub spellings : Edition → List (String × Operator)
 spellings e = bitwise ++ predicates ++ arithmetic ++ shiftsAndCasts
 
 -- the operator of the first spelling that is s
-unfoldable pub spelt : List ℕ → List (String × Operator) → Option Operator
-spelt s [] = none
-spelt s (x ∷ xs) = let rest = spelt s xs in cond (same (ascii (x .0)) s) (some (x .1)) rest
+unfoldable pub operatorSpelt : List ℕ → List (String × Operator) → Option Operator
+operatorSpelt s [] = none
+operatorSpelt s (x ∷ xs) = let rest = operatorSpelt s xs in cond (same (ascii (x .0)) s) (some (x .1)) rest
 
 -- the operator that s spells in an edition
 abbrev pub operatorNamed : Edition → List ℕ → Option Operator
-operatorNamed e s = spelt s (spellings e)
+operatorNamed e s = operatorSpelt s (spellings e)
 
--- "The 14 word operators are reserved": of the operators' spellings these 14 are names
+-- "The 14 word operators .. are reserved": a name that spells an operator is
 abbrev pub isReserved : Edition → List ℕ → Bool
 isReserved e s = isThere (operatorNamed e s)
+
+-- the reserved words: "ule uge ult ugt sle sge slt sgt ite trun sext zext conc extr"
+unfoldable pub reservedWords : Edition → List String
+reservedWords e =
+    "ule" ∷ "uge" ∷ "ult" ∷ "ugt" ∷ "sle" ∷ "sge" ∷ "slt" ∷ "sgt"
+    ∷ "ite" ∷ "trun" ∷ "sext" ∷ "zext" ∷ "conc" ∷ "extr" ∷ []
+
+-- whether a text is one of the words
+unfoldable pub isOneOfWords : List ℕ → List String → Bool
+isOneOfWords s [] = false
+isOneOfWords s (w ∷ ws) = same (ascii w) s || isOneOfWords s ws

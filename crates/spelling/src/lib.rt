@@ -1,18 +1,21 @@
 // The operators' spellings, by the sections of the format.
-use operator::Arithmetic;
-use operator::Bitwise;
-use operator::Comparison;
-use operator::Division;
-use operator::Extension;
-use operator::Operator;
-use operator::Shift;
+use arithmetic::Arithmetic;
+use arithmetic::Bitwise;
+use arithmetic::Comparison;
+use arithmetic::Division;
+use arithmetic::Extension;
+use arithmetic::Operator;
+use arithmetic::Shift;
 use text::compare::is_word;
 ghost use mathlib.Core.Path.{_≡_};
+ghost use mathlib.Core.Option.{orElse};
 ghost use Prim.Native.Nat.{_≤_};
 ghost use lib.ListN.{length, drop};
 ghost use Rattle.edition.specs.declared.Edition.{Edition};
-ghost use Rattle.spelling.specs.Operators.{bitwise as bitwiseList, predicates as predicateList, arithmetic as arithmeticList, shiftsAndCasts, spelt, operatorNamed, isReserved};
-ghost use Rattle.spelling.specs.Answers.{spelling, earlier};
+ghost use Rattle.spelling.specs.Operators.{bitwise as bitwiseList, predicates as predicateList, arithmetic as arithmeticList, shiftsAndCasts, operatorSpelt, operatorNamed, isReserved};
+ghost use Rattle.spelling.specs.Internal.{spelling, earlier, ifWord};
+
+pub mod claims;
 
 // The operator that a text spells.
 pub enum Spelt {
@@ -20,135 +23,81 @@ pub enum Spelt {
     Unknown,
 }
 
-fn bitwise(text: &[u8], at: usize) -> Spelt
+// What is found already, else the operator, if the bytes from `at` to the end are its word.
+fn or_word(found: Spelt, text: &[u8], at: usize, word: &[u8], op: Operator) -> Spelt
     requires { ⌜ at ≤ length (now text) ⌝ }
-    ensures { λ r. ⌜ spelling r ≡ spelt (drop at (now (text .entry))) bitwiseList ⌝ }
+    ensures { λ r. ⌜ r ≡ earlier found (ifWord (now (word .entry)) (drop at (now (text .entry))) op) ⌝ }
 {
-    if is_word(text, at, b"&") {
-        return Spelt::Is(Operator::Combine(Bitwise::And));
+    match found {
+        Spelt::Is(before) => Spelt::Is(before),
+        Spelt::Unknown => if is_word(text, at, word) {
+            Spelt::Is(op)
+        } else {
+            Spelt::Unknown
+        },
     }
-    if is_word(text, at, b"|") {
-        return Spelt::Is(Operator::Combine(Bitwise::Or));
-    }
-    if is_word(text, at, b"^") {
-        return Spelt::Is(Operator::Combine(Bitwise::Xor));
-    }
-    if is_word(text, at, b"~") {
-        return Spelt::Is(Operator::Not);
-    }
-    Spelt::Unknown
 }
 
-fn predicates(text: &[u8], at: usize) -> Spelt
+// What is found already, else the operator of the first word of a list that the bytes are: one function for each list.
+fn bitwise(found: Spelt, text: &[u8], at: usize) -> Spelt
     requires { ⌜ at ≤ length (now text) ⌝ }
-    ensures { λ r. ⌜ spelling r ≡ spelt (drop at (now (text .entry))) predicateList ⌝ }
+    ensures { λ r. ⌜ spelling r ≡ orElse (spelling found) (operatorSpelt (drop at (now (text .entry))) bitwiseList) ⌝ }
 {
-    if is_word(text, at, b"=>") {
-        return Spelt::Is(Operator::Implies);
-    }
-    if is_word(text, at, b"=") {
-        return Spelt::Is(Operator::Compare(Comparison::Equal));
-    }
-    if is_word(text, at, b"/=") {
-        return Spelt::Is(Operator::Compare(Comparison::NotEqual));
-    }
-    if is_word(text, at, b"ule") {
-        return Spelt::Is(Operator::Compare(Comparison::Ule));
-    }
-    if is_word(text, at, b"uge") {
-        return Spelt::Is(Operator::Compare(Comparison::Uge));
-    }
-    if is_word(text, at, b"ult") {
-        return Spelt::Is(Operator::Compare(Comparison::Ult));
-    }
-    if is_word(text, at, b"ugt") {
-        return Spelt::Is(Operator::Compare(Comparison::Ugt));
-    }
-    if is_word(text, at, b"sle") {
-        return Spelt::Is(Operator::Compare(Comparison::Sle));
-    }
-    if is_word(text, at, b"sge") {
-        return Spelt::Is(Operator::Compare(Comparison::Sge));
-    }
-    if is_word(text, at, b"slt") {
-        return Spelt::Is(Operator::Compare(Comparison::Slt));
-    }
-    if is_word(text, at, b"sgt") {
-        return Spelt::Is(Operator::Compare(Comparison::Sgt));
-    }
-    Spelt::Unknown
+    let found = or_word(found, text, at, b"&", Operator::Combine(Bitwise::And));
+    let found = or_word(found, text, at, b"|", Operator::Combine(Bitwise::Or));
+    let found = or_word(found, text, at, b"^", Operator::Combine(Bitwise::Xor));
+    or_word(found, text, at, b"~", Operator::Not)
 }
 
-fn arithmetic(text: &[u8], at: usize) -> Spelt
+fn predicates(found: Spelt, text: &[u8], at: usize) -> Spelt
     requires { ⌜ at ≤ length (now text) ⌝ }
-    ensures { λ r. ⌜ spelling r ≡ spelt (drop at (now (text .entry))) arithmeticList ⌝ }
+    ensures { λ r. ⌜ spelling r ≡ orElse (spelling found) (operatorSpelt (drop at (now (text .entry))) predicateList) ⌝ }
 {
-    if is_word(text, at, b"ite") {
-        return Spelt::Is(Operator::Ite);
-    }
-    if is_word(text, at, b"+") {
-        return Spelt::Is(Operator::Compute(Arithmetic::Add));
-    }
-    if is_word(text, at, b"-") {
-        return Spelt::Is(Operator::Compute(Arithmetic::Sub));
-    }
-    if is_word(text, at, b"*") {
-        return Spelt::Is(Operator::Compute(Arithmetic::Mul));
-    }
-    if is_word(text, at, b"/u") {
-        return Spelt::Is(Operator::Divide(Division::Udiv));
-    }
-    if is_word(text, at, b"/s") {
-        return Spelt::Is(Operator::Divide(Division::Sdiv));
-    }
-    if is_word(text, at, b"%u") {
-        return Spelt::Is(Operator::Divide(Division::Urem));
-    }
-    if is_word(text, at, b"%s") {
-        return Spelt::Is(Operator::Divide(Division::Srem));
-    }
-    Spelt::Unknown
+    let found = or_word(found, text, at, b"=>", Operator::Implies);
+    let found = or_word(found, text, at, b"=", Operator::Compare(Comparison::Equal));
+    let found = or_word(
+        found,
+        text,
+        at,
+        b"/=",
+        Operator::Compare(Comparison::NotEqual),
+    );
+    let found = or_word(found, text, at, b"ule", Operator::Compare(Comparison::Ule));
+    let found = or_word(found, text, at, b"uge", Operator::Compare(Comparison::Uge));
+    let found = or_word(found, text, at, b"ult", Operator::Compare(Comparison::Ult));
+    let found = or_word(found, text, at, b"ugt", Operator::Compare(Comparison::Ugt));
+    let found = or_word(found, text, at, b"sle", Operator::Compare(Comparison::Sle));
+    let found = or_word(found, text, at, b"sge", Operator::Compare(Comparison::Sge));
+    let found = or_word(found, text, at, b"slt", Operator::Compare(Comparison::Slt));
+    or_word(found, text, at, b"sgt", Operator::Compare(Comparison::Sgt))
 }
 
-fn shifts_and_casts(text: &[u8], at: usize) -> Spelt
+fn arithmetic(found: Spelt, text: &[u8], at: usize) -> Spelt
     requires { ⌜ at ≤ length (now text) ⌝ }
-    ensures { λ r. ⌜ spelling r ≡ spelt (drop at (now (text .entry))) shiftsAndCasts ⌝ }
+    ensures { λ r. ⌜ spelling r ≡ orElse (spelling found) (operatorSpelt (drop at (now (text .entry))) arithmeticList) ⌝ }
 {
-    if is_word(text, at, b"<<") {
-        return Spelt::Is(Operator::Move(Shift::Shl));
-    }
-    if is_word(text, at, b">>a") {
-        return Spelt::Is(Operator::Move(Shift::Ashr));
-    }
-    if is_word(text, at, b">>l") {
-        return Spelt::Is(Operator::Move(Shift::Lshr));
-    }
-    if is_word(text, at, b"trun") {
-        return Spelt::Is(Operator::Trun);
-    }
-    if is_word(text, at, b"sext") {
-        return Spelt::Is(Operator::Extend(Extension::Sext));
-    }
-    if is_word(text, at, b"zext") {
-        return Spelt::Is(Operator::Extend(Extension::Zext));
-    }
-    if is_word(text, at, b"conc") {
-        return Spelt::Is(Operator::Conc);
-    }
-    if is_word(text, at, b"extr") {
-        return Spelt::Is(Operator::Extr);
-    }
-    Spelt::Unknown
+    let found = or_word(found, text, at, b"ite", Operator::Ite);
+    let found = or_word(found, text, at, b"+", Operator::Compute(Arithmetic::Add));
+    let found = or_word(found, text, at, b"-", Operator::Compute(Arithmetic::Sub));
+    let found = or_word(found, text, at, b"*", Operator::Compute(Arithmetic::Mul));
+    let found = or_word(found, text, at, b"/u", Operator::Divide(Division::Udiv));
+    let found = or_word(found, text, at, b"/s", Operator::Divide(Division::Sdiv));
+    let found = or_word(found, text, at, b"%u", Operator::Divide(Division::Urem));
+    or_word(found, text, at, b"%s", Operator::Divide(Division::Srem))
 }
 
-// The first that is there.
-fn either(a: Spelt, b: Spelt) -> Spelt
-    ensures { λ r. ⌜ r ≡ earlier a b ⌝ }
+fn shifts_and_casts(found: Spelt, text: &[u8], at: usize) -> Spelt
+    requires { ⌜ at ≤ length (now text) ⌝ }
+    ensures { λ r. ⌜ spelling r ≡ orElse (spelling found) (operatorSpelt (drop at (now (text .entry))) shiftsAndCasts) ⌝ }
 {
-    match a {
-        Spelt::Is(op) => Spelt::Is(op),
-        Spelt::Unknown => b,
-    }
+    let found = or_word(found, text, at, b"<<", Operator::Move(Shift::Shl));
+    let found = or_word(found, text, at, b">>a", Operator::Move(Shift::Ashr));
+    let found = or_word(found, text, at, b">>l", Operator::Move(Shift::Lshr));
+    let found = or_word(found, text, at, b"trun", Operator::Trun);
+    let found = or_word(found, text, at, b"sext", Operator::Extend(Extension::Sext));
+    let found = or_word(found, text, at, b"zext", Operator::Extend(Extension::Zext));
+    let found = or_word(found, text, at, b"conc", Operator::Conc);
+    or_word(found, text, at, b"extr", Operator::Extr)
 }
 
 // The operator that the bytes from `at` to the end spell.
@@ -156,11 +105,10 @@ pub fn operator_at(text: &[u8], at: usize) -> Spelt
     requires { ⌜ at ≤ length (now text) ⌝ }
     ensures { λ r. ⌜ ((e : Edition) → spelling r ≡ operatorNamed e (drop at (now (text .entry)))) ⌝ }
 {
-    let a = bitwise(text, at);
-    let b = predicates(text, at);
-    let c = arithmetic(text, at);
-    let d = shifts_and_casts(text, at);
-    either(a, either(b, either(c, d)))
+    let found = bitwise(Spelt::Unknown, text, at);
+    let found = predicates(found, text, at);
+    let found = arithmetic(found, text, at);
+    shifts_and_casts(found, text, at)
 }
 
 pub fn is_reserved(text: &[u8], at: usize) -> bool

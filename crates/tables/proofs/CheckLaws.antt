@@ -9,24 +9,25 @@ use Rattle.refusal.specs.declared.Refusal.{Refusal}
 use Rattle.refusal.specs.declared.Subject.the-variants.{Values, Verdicts}
 use Rattle.refusal.specs.Numbers.{tooShort}
 use Rattle.refusal.specs.Result.{accepted, refused, refusal}
-use Rattle.constraint.specs.declared.Progress.{Progress}
-use Rattle.constraint.specs.File.{File, edition}
+use Rattle.store.specs.declared.Progress.{Progress}
+use Rattle.constraint.specs.File.{File, editionOf}
 use Rattle.constraint.specs.Read.{readFile}
-use Rattle.constraint.specs.Claims.{Each}
-use Rattle.constraint.specs.Tables.{linesIn}
-use Rattle.constraint.specs.Answers.{Held, heldVariables, fileHeld}
-use Rattle.constraint.proofs.TableLaws.{lines-length}
-use Rattle.constraint.proofs.LookupLaws.{variables-length}
+use Rattle.constraint.specs.Sound.{Each}
+use Rattle.store.specs.Tables.{linesIn}
+use Rattle.store.specs.Tables.{Store, storedVariables}
+use Rattle.store.specs.Progress.{storedFile}
+use Rattle.store.proofs.TableLaws.{lines-length}
+use Rattle.store.proofs.LookupLaws.{variables-length}
 use Rattle.constraint.proofs.SoundLaws.{accepted-is-sound}
-use Rattle.judge.specs.Judge.{freshVerdicts, overall}
-use Rattle.judge.specs.Unnamed.{unnamed, Fitting}
+use Rattle.judge.specs.Judge.{freshVerdicts, overallOf}
+use Rattle.store.specs.Tables.{unnamed}
+use Rattle.judge.specs.Fitting.{Fitting}
 use Rattle.judge.proofs.VerdictLaws.{verdicts-length}
 use Rattle.judge.proofs.HeldLaws.{lines-fit}
 use Rattle.answer.specs.Read.{readAnswer}
 use Rattle.answer.proofs.FitLaws.{row-fits-answer}
 use Rattle.tables.specs.declared.CheckReply.the-variants.{Checked}
 use Rattle.tables.specs.Check.{checkingFor, checking, CheckOutcome, checked}
-use Rattle.tables.proofs.CheckingLaws.{steps-checking}
 
 module _ (constraint answer values verdicts : List ℕ) where
   -- the constraint file is refused
@@ -54,33 +55,34 @@ module _ (constraint answer values verdicts : List ℕ) where
         verdicts-short i = rw (← e, ← a, l, k, le-leb n (length values) h, lt-leb m (length verdicts) i)
 
         pub checked-row : m ≤ length verdicts → accepted (f, row) ≡ checking constraint answer values verdicts
-        checked-row i = sym (steps-checking constraint answer values verdicts f row (record { file = sym e; answered = sym a; values-room = rw l h; verdicts-room = rw k i }))
+        unfolding checking checkingFor
+        checked-row i = rw (← e, ← a, l, k, le-leb n (length values) h, le-leb m (length verdicts) i)
 
 -- the tables that hold a file
-module _ (bytes : List ℕ) (t : Held) (p : Progress) where
-  pub variables-held : length (fileHeld bytes t p .variables) ≡ p .variables
+module _ (bytes : List ℕ) (t : Store) (p : Progress) where
+  pub variables-held : length (storedFile bytes t p .variables) ≡ p .variables
   variables-held = variables-length bytes (t .starts) (t .lens) (t .widths) (p .variables)
 
-  pub lines-held : length (fileHeld bytes t p .lines) ≡ p .lines
+  pub lines-held : length (storedFile bytes t p .lines) ≡ p .lines
   lines-held = lines-length (t .lines) (p .lines)
 
   -- it was accepted
-  module _ (e : accepted (fileHeld bytes t p) ≡ readFile bytes) where
+  module _ (e : accepted (storedFile bytes t p) ≡ readFile bytes) where
     -- the operands of each line fit, under the row of an accepted answer
-    pub answer-fits-lines : (answer row : List ℕ) → accepted row ≡ readAnswer (heldVariables bytes t (p .variables)) answer → Each (Fitting (unnamed (t .widths) (p .variables)) row) (linesIn (t .lines) (p .lines))
+    pub answer-fits-lines : (answer row : List ℕ) → accepted row ≡ readAnswer (storedVariables bytes t (p .variables)) answer → Each (Fitting (unnamed (t .widths) (p .variables)) row) (linesIn (t .lines) (p .lines))
     answer-fits-lines answer row a =
-        let f = fileHeld bytes t p in
+        let f = storedFile bytes t p in
         let s = accepted-is-sound bytes f (sym e) in
-        lines-fit bytes t p row e (row-fits-answer (edition f) (f .variables) answer row (s .variables) (s .distinct) (sym a))
+        lines-fit bytes t p row e (row-fits-answer (editionOf f) (f .variables) answer row (s .variables) (s .distinct) (sym a))
 
     -- the number of lines is the file's
     pub counts-lines : (f : File) → readFile bytes ≡ accepted f → p .lines ≡ length (f .lines)
     counts-lines f q =
-        let z : accepted (fileHeld bytes t p) ≡ accepted f = e ∙ q in
-        let y : fileHeld bytes t p ≡ f = cc z in
+        let z : accepted (storedFile bytes t p) ≡ accepted f = e ∙ q in
+        let y : storedFile bytes t p ≡ f = cc z in
         sym lines-held ∙ ap (λ g. length (g .lines)) y
 
 -- the entries in use, filled, and those behind them as they were
-pub tables-filled : (values verdicts : List ℕ) (f : File) (row out fresh vs : List ℕ) (n m : ℕ) → length (f .variables) ≡ n → length (f .lines) ≡ m → fresh ≡ freshVerdicts f row → out ≡ row ++ drop n values → vs ≡ fresh ++ drop m verdicts → _≡_ {A = CheckOutcome} (record { reply = Checked (overall (take m vs)); values = out; verdicts = vs }) (checked values verdicts (accepted (f, row)))
+pub tables-filled : (values verdicts : List ℕ) (f : File) (row out fresh vs : List ℕ) (n m : ℕ) → length (f .variables) ≡ n → length (f .lines) ≡ m → fresh ≡ freshVerdicts f row → out ≡ row ++ drop n values → vs ≡ fresh ++ drop m verdicts → _≡_ {A = CheckOutcome} (record { reply = Checked (overallOf (take m vs)); values = out; verdicts = vs }) (checked values verdicts (accepted (f, row)))
 tables-filled values verdicts f row out fresh vs n m l k q a b =
     rw (a, b, q, l, k, take-at (freshVerdicts f row) (drop m verdicts) m (verdicts-length (f .variables) row (f .lines) ∙ k))

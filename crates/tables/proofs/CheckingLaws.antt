@@ -5,18 +5,16 @@ use mathlib.Core.List.{List}
 use lib.Dec.{leb}
 use lib.ListN.{length}
 use borrow.Author.Tests.{leb-true, le-leb}
-use Rattle.refusal.specs.Lists.{firstFrom}
+use Rattle.refusal.specs.Lists.{firstFrom, isOneOf}
 use Rattle.refusal.specs.Result.{accepted}
 use Rattle.refusal.proofs.ResultLaws.{Yields, yields-accepted, yields-bind, yields-ensure, yields-itself}
 use Rattle.constraint.specs.File.{File}
 use Rattle.constraint.specs.Read.{readFile}
 use Rattle.answer.specs.Read.{readAnswer}
 use Rattle.tables.specs.Check.{checkingFor, checking}
-use Rattle.tables.specs.Replies.{numbersOf, isOneOf}
+use Rattle.tables.specs.Replies.{numbersOf}
 use Rattle.refusal.proofs.RefusesLaws.{Refuses, refuses-accepted, refuses-bind, refuses-ensure}
-use Rattle.tables.proofs.KnownLaws.{Known}
-use Rattle.tables.proofs.FileRefusesLaws.{file-refuses}
-use Rattle.tables.proofs.AnswerRefusesLaws.{answer-refuses}
+use Rattle.tables.proofs.KnownLaws.{Known, file-known, answer-known}
 
 -- the steps of a check that is accepted
 pub record Steps (constraint answer : List ℕ) (values verdicts : ℕ) (f : File) (row : List ℕ) : Type 0 where
@@ -53,8 +51,8 @@ module _ (constraint answer values verdicts : List ℕ) where
   pub checking-refuses : Refuses Known (checking constraint answer values verdicts)
   unfolding checking checkingFor numbersOf isOneOf firstFrom
   checking-refuses =
-      refuses-bind (file-refuses constraint) λ f.
-      refuses-bind (refuses-bind (answer-refuses (f .variables) answer) λ row.
+      refuses-bind (file-known constraint) λ f.
+      refuses-bind (refuses-bind (answer-known (f .variables) answer) λ row.
       refuses-ensure (leb (length (f .variables)) (length values)) _ refl (
       refuses-ensure (leb (length (f .lines)) (length verdicts)) _ refl
       refuses-accepted)) λ row.

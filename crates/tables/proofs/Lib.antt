@@ -1,7 +1,5 @@
 -- Laws that belong to no one function.
 pub mod KnownLaws
-pub mod FileRefusesLaws
-pub mod AnswerRefusesLaws
 pub mod CheckingLaws
 pub mod RepliesLaws
 pub mod SatisfiedLaws
@@ -9,11 +7,4 @@ pub mod ExampleLaws
 pub mod CheckLaws
 pub mod CountLaws
 pub mod ReportLaws
-pub mod RenewLaws
-pub mod GateLaws
-pub mod ChangeLaws
-pub mod ChangeHeldLaws
-pub mod NamesLaws
-pub mod TouchLaws
-pub mod RunLaws
-pub mod WholeLaws
+pub mod ReportedLaws

@@ -8,18 +8,18 @@ use Rattle.constraint.specs.File.{File}
 use Rattle.constraint.specs.Read.{readFile}
 use Rattle.judge.specs.declared.Overall.{Overall}
 use Rattle.judge.specs.declared.Overall.the-variants.{Satisfied, Violated, Disregarded}
-use Rattle.judge.specs.Judge.{freshVerdicts, overall}
+use Rattle.judge.specs.Judge.{freshVerdicts, overallOf}
 use Rattle.judge.proofs.VerdictLaws.{verdicts-length}
 use Rattle.tables.specs.declared.CheckReply.the-variants.{Checked}
 use Rattle.tables.specs.Check.{checking, checked}
-use Rattle.tables.specs.Replies.{LineOf, IsReply, OneReply}
+use Rattle.tables.specs.Replies.{LineOfFile, IsReply, OneReply}
 use Rattle.judge.proofs.OverallLaws.{Place, Named, overall-named}
 use Rattle.tables.proofs.CheckingLaws.{checking-steps, checking-refuses}
 
 module _ (constraint : List ℕ) where
   -- the line that a verdict stands for is one of the file's
   module _ (f : File) (e : readFile constraint ≡ accepted f) (vs : List ℕ) (l : length vs ≡ length (f .lines)) where
-    line-of : (n : ℕ) → Place n vs → LineOf constraint n
+    line-of : (n : ℕ) → Place n vs → LineOfFile constraint n
     line-of n p = record { file = f; is-read = e; from = p .from; to = rw (← l) (p .to) }
 
     -- so an overall verdict is a reply
@@ -32,7 +32,7 @@ module _ (constraint : List ℕ) where
   is-reply : (answer values verdicts : List ℕ) (r : Result (File × List ℕ)) → checking constraint answer values verdicts ≡ r → IsReply constraint (checked values verdicts r .reply)
   is-reply answer values verdicts (accepted (f, row)) e =
       let vs = freshVerdicts f row in
-      verdict-reply f (checking-steps constraint answer values verdicts f row e .file) vs (verdicts-length (f .variables) row (f .lines)) (overall vs) (overall-named vs)
+      verdict-reply f (checking-steps constraint answer values verdicts f row e .file) vs (verdicts-length (f .variables) row (f .lines)) (overallOf vs) (overall-named vs)
   is-reply answer values verdicts (refused x) e = checking-refuses constraint answer values verdicts .holds x e
 
 pub one-reply : OneReply

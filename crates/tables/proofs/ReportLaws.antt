@@ -12,16 +12,16 @@ use Rattle.refusal.specs.Result.{Result, accepted, refused, _>>=_}
 use Rattle.refusal.proofs.ResultLaws.{never}
 use Rattle.constraint.specs.File.{File}
 use Rattle.constraint.specs.Read.{readFile}
-use Rattle.constraint.specs.Claims.{SoundFile}
+use Rattle.constraint.specs.Sound.{SoundFile}
 use Rattle.constraint.proofs.SoundLaws.{accepted-is-sound}
 use Rattle.judge.specs.declared.Overall.{Overall}
-use Rattle.judge.specs.Judge.{freshVerdicts, overall}
+use Rattle.judge.specs.Judge.{freshVerdicts, overallOf}
 use Rattle.judge.proofs.VerdictLaws.{verdicts-length}
 use Rattle.answer.specs.Read.{readAnswer}
 use Rattle.tables.specs.declared.CheckReply.the-variants.{Checked, Refused}
 use Rattle.tables.specs.declared.Judgement.the-variants.{Done}
 use Rattle.tables.specs.declared.Report.the-variants.{Judged, Refused as NotJudged}
-use Rattle.tables.specs.Answers.{CountsLines}
+use Rattle.tables.specs.Internal.{CountsLines}
 use Rattle.tables.specs.Check.{checkingFor, checking, CheckOutcome, checked, checkOutcome}
 use Rattle.tables.specs.Report.{answering, tallyOf, reported, reportOutcome}
 use Rattle.tables.proofs.CheckingLaws.{checking-steps}
@@ -56,8 +56,8 @@ module _ (values verdicts out vs : List ℕ) where
     judged-where (accepted (f, row)) n e =
         let fresh = freshVerdicts f row in
         let behind = drop (length (f .lines)) verdicts in
-        let q : Checked o ≡ Checked (overall fresh) = ap (λ y. y .reply) e in
-        let a : o ≡ overall fresh = cc q in
+        let q : Checked o ≡ Checked (overallOf fresh) = ap (λ y. y .reply) e in
+        let a : o ≡ overallOf fresh = cc q in
         let b : vs ≡ fresh ++ behind = ap (λ y. y .verdicts) e in
         let l : length fresh ≡ m = verdicts-length (f .variables) row (f .lines) ∙ sym (n f row refl) in
         (omega (arith, ap length b ∙ length-append fresh behind), ap₂ Judged a (ap tallyOf (rw b (take-at fresh behind m l))))
@@ -65,7 +65,7 @@ module _ (values verdicts out vs : List ℕ) where
 
   -- with a refusal
   refused-where : (r : Refusal) (c : Result (File × List ℕ)) → _≡_ {A = CheckOutcome} (record { reply = Refused r; values = out; verdicts = vs }) (checked values verdicts c) → NotJudged r ≡ reported c
-  refused-where r (accepted (f, row)) e = let q : Refused r ≡ Checked (overall (freshVerdicts f row)) = ap (λ y. y .reply) e in never (cc q)
+  refused-where r (accepted (f, row)) e = let q : Refused r ≡ Checked (overallOf (freshVerdicts f row)) = ap (λ y. y .reply) e in never (cc q)
   refused-where r (refused x) e = let q : Refused r ≡ Refused x = ap (λ y. y .reply) e in ap NotJudged (cc q)
 
 -- ---- the report

@@ -6,14 +6,15 @@ use mathlib.Core.List.{List, [], _∷_}
 use lib.ListN.{length}
 use Rattle.refusal.specs.Result.{Result, accepted, refused}
 use Rattle.refusal.proofs.ResultLaws.{never}
-use Rattle.operator.specs.Claims.{zeroDivisor}
+use Rattle.arithmetic.specs.Claims.{zeroDivisor}
 use Rattle.constraint.specs.declared.Line.{Line}
-use Rattle.constraint.specs.File.{Variable, File, edition, word}
-use Rattle.constraint.specs.Claims.{Each}
+use Rattle.constraint.specs.File.{Variable, File, editionOf, operandWord}
+use Rattle.constraint.specs.Sound.{Each}
 use Rattle.constraint.proofs.SoundLaws.{accepted-is-sound}
+use Rattle.plain.proofs.SaysLaws.{reads-exactly}
 use Rattle.judge.specs.declared.Overall.the-variants.{Satisfied}
-use Rattle.judge.specs.Judge.{result, freshVerdicts, overall}
-use Rattle.judge.specs.Claims.{LineResult}
+use Rattle.judge.specs.Judge.{resultOf, freshVerdicts, overallOf}
+use Rattle.judge.specs.Claims.{HasLineResult}
 use Rattle.judge.proofs.ResultLaws.{results-are-there}
 use Rattle.answer.proofs.AcceptsLaws.{accepts-exactly}
 use Rattle.tables.specs.declared.CheckReply.the-variants.{Checked}
@@ -27,54 +28,60 @@ use Rattle.tables.proofs.CheckingLaws.{Steps, checking-steps, steps-che
 module _ (xs : List Variable) (row : List ℕ) where
   -- whether a line divides by zero
   abbrev byZero : Line → Bool
-  byZero l = zeroDivisor (l .operator) (word xs row (l .operands .second))
+  byZero l = zeroDivisor (l .operator) (operandWord xs row (l .operands .second))
 
-  not-by-zero : (l : Line) (t : Bool) → byZero l ≡ t → LineResult xs row l → Holds xs row l → t ≡ false
-  unfolding result
+  not-by-zero : (l : Line) (t : Bool) → byZero l ≡ t → HasLineResult xs row l → Holds xs row l → t ≡ false
+  unfolding resultOf
   not-by-zero l true e r h = never (cc (sym (r .missing e) ∙ h))
   not-by-zero l false e r h = refl
 
-  none-by-zero : (ls : List Line) → Each (LineResult xs row) ls → Each (Holds xs row) ls → Each (λ l. byZero l ≡ false) ls
+  none-by-zero : (ls : List Line) → Each (HasLineResult xs row) ls → Each (Holds xs row) ls → Each (λ l. byZero l ≡ false) ls
   none-by-zero [] r h = tt
   none-by-zero (l ∷ ls) r h = (not-by-zero l (byZero l) refl (r .0) (h .0), none-by-zero ls (r .1) (h .1))
 
-module _ (constraint answer values verdicts : List ℕ) where
-  -- ---- what is satisfied meets the conditions
-  steps-satisfy : (f : File) (row : List ℕ) → Steps constraint answer (length values) (length verdicts) f row → overall (freshVerdicts f row) ≡ Satisfied → Satisfies constraint answer (length values) (length verdicts)
+-- ---- tables of any lengths
+module _ (constraint answer : List ℕ) (values verdicts : ℕ) where
+  -- what is satisfied meets the conditions
+  pub steps-satisfy : (f : File) (row : List ℕ) → Steps constraint answer values verdicts f row → overallOf (freshVerdicts f row) ≡ Satisfied → Satisfies constraint answer values verdicts
   steps-satisfy f row s e =
       let sound = accepted-is-sound constraint f (s .file) in
       let hold = satisfied-holds (f .variables) row (f .lines) e in
-      let fit = row-fits-answer (edition f) (f .variables) answer row (sound .variables) (sound .distinct) (s .answered) in
+      let fit = row-fits-answer (editionOf f) (f .variables) answer row (sound .variables) (sound .distinct) (s .answered) in
       record {
         file = f;
         row = row;
-        well-formed = s .file;
+        well-formed = reads-exactly constraint f .0 (s .file);
         well-typed = sound;
-        sets = accepts-exactly (edition f) (f .variables) answer row (sound .variables) (sound .distinct) .0 (s .answered);
-        values-fit = answer-fits (edition f) (f .variables) answer row (sound .variables) (sound .distinct) (s .answered) .1;
+        sets = accepts-exactly (editionOf f) (f .variables) answer row (sound .variables) (sound .distinct) .0 (s .answered);
+        values-fit = answer-fits (editionOf f) (f .variables) answer row (sound .variables) (sound .distinct) (s .answered) .1;
         values-room = s .values-room;
         verdicts-room = s .verdicts-room;
         no-zero-divisor = none-by-zero (f .variables) row (f .lines) (results-are-there constraint f row (s .file) fit) hold;
         lines-hold = hold;
       }
 
-  satisfied-satisfies : (r : Result (File × List ℕ)) → checking constraint answer values verdicts ≡ r → checked values verdicts r .reply ≡ Checked Satisfied → Satisfies constraint answer (length values) (length verdicts)
-  satisfied-satisfies (accepted (f, row)) e q = steps-satisfy f row (checking-steps constraint answer values verdicts f row e) (cc q)
-  satisfied-satisfies (refused r) e q = never (cc q)
-
-  -- ---- what meets the conditions is satisfied
-  satisfies-steps : (s : Satisfies constraint answer (length values) (length verdicts)) → Steps constraint answer (length values) (length verdicts) (s .file) (s .row)
+  -- what meets the conditions is satisfied
+  pub satisfies-steps : (s : Satisfies constraint answer values verdicts) → Steps constraint answer values verdicts (s .file) (s .row)
   satisfies-steps s =
       let sound = s .well-typed in
       record {
-        file = s .well-formed;
-        answered = accepts-exactly (edition (s .file)) (s .file .variables) answer (s .row) (sound .variables) (sound .distinct) .1 (s .sets);
+        file = reads-exactly constraint (s .file) .1 (s .well-formed);
+        answered = accepts-exactly (editionOf (s .file)) (s .file .variables) answer (s .row) (sound .variables) (sound .distinct) .1 (s .sets);
         values-room = s .values-room;
         verdicts-room = s .verdicts-room;
       }
 
+  pub satisfies-overall : (s : Satisfies constraint answer values verdicts) → overallOf (freshVerdicts (s .file) (s .row)) ≡ Satisfied
+  satisfies-overall s = holds-satisfied (s .file .variables) (s .row) (s .file .lines) (s .lines-hold)
+
+-- ---- the check
+module _ (constraint answer values verdicts : List ℕ) where
+  satisfied-satisfies : (r : Result (File × List ℕ)) → checking constraint answer values verdicts ≡ r → checked values verdicts r .reply ≡ Checked Satisfied → Satisfies constraint answer (length values) (length verdicts)
+  satisfied-satisfies (accepted (f, row)) e q = steps-satisfy constraint answer (length values) (length verdicts) f row (checking-steps constraint answer values verdicts f row e) (cc q)
+  satisfied-satisfies (refused r) e q = never (cc q)
+
   satisfies-satisfied : Satisfies constraint answer (length values) (length verdicts) → checkOutcome constraint answer values verdicts .reply ≡ Checked Satisfied
-  satisfies-satisfied s = rw (steps-checking constraint answer values verdicts (s .file) (s .row) (satisfies-steps s)) (ap Checked (holds-satisfied (s .file .variables) (s .row) (s .file .lines) (s .lines-hold)))
+  satisfies-satisfied s = rw (steps-checking constraint answer values verdicts (s .file) (s .row) (satisfies-steps constraint answer (length values) (length verdicts) s)) (ap Checked (satisfies-overall constraint answer (length values) (length verdicts) s))
 
 pub satisfied-exactly : SatisfiedExactly
 satisfied-exactly constraint answer values verdicts = (satisfied-satisfies constraint answer values verdicts (checking constraint answer values verdicts) refl, satisfies-satisfied constraint answer values verdicts)

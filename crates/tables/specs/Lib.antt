@@ -1,9 +1,5 @@
 pub mod Check
 pub mod Report
 pub mod Replies
-pub mod Answers
+pub mod Internal
 pub mod Claims
-pub mod Change
-pub mod Gate
-pub mod Run
-pub mod Whole

@@ -2,22 +2,22 @@
 use super::CheckReply;
 use super::Judgement;
 use answer::AnswerRead;
-use answer::reader::read_answer;
+use answer::reading::read_answer;
 use answer::rows::store_row;
-use constraint::Step;
-use constraint::reader::read;
-use constraint::tables::TABLE_WORDS;
 use edition::Edition;
 use judge::lines::judge_all;
 use judge::verdicts::overall;
+use reader::reading::read;
 use refusal::Refusal;
 use refusal::Subject;
+use store::Step;
+use store::lines::TABLE_WORDS;
 ghost use mathlib.Core.Path.{_≡_};
 ghost use Rattle.refusal.specs.Numbers.{tooShort};
 ghost use Rattle.refusal.specs.Result.{refusal as refusalOf};
 ghost use Rattle.tables.specs.declared.Judgement.the-variants.{Stopped};
 ghost use Rattle.tables.specs.Check.{checkOutcome};
-ghost use Rattle.tables.specs.Answers.{replyOf, CountsLines};
+ghost use Rattle.tables.specs.Internal.{replyOf, CountsLines};
 
 // A table is too short.
 fn too_short(subject: Subject) -> Judgement

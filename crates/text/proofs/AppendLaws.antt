@@ -10,19 +10,19 @@ use lib.Seq.{drop-append-seam, drop-append-add}
 use borrow.Author.Tests.{not-true}
 use Rattle.refusal.specs.Lists.{every}
 use Rattle.refusal.proofs.BoolLaws.{and-true}
-use Rattle.text.specs.Bytes.{run, isSpace, isLineFeed}
+use Rattle.text.specs.Bytes.{frontOf, isSpace, isLineFeed}
 use Rattle.text.specs.Lines.{lineOf, linesFrom, tokenOf, tokensFrom}
 use Rattle.text.proofs.LineLaws.{lines-cons}
 use Rattle.text.proofs.TokenLaws.{tokens-cons}
 
 -- the run of a text that passes, and of what stands behind it
-pub run-through : (p : ℕ → Bool) (s t : List ℕ) → every p s ≡ true → run p (s ++ t) ≡ s ++ run p t
-unfolding every run
+pub run-through : (p : ℕ → Bool) (s t : List ℕ) → every p s ≡ true → frontOf p (s ++ t) ≡ s ++ frontOf p t
+unfolding every frontOf
 run-through p [] t h = refl
 run-through p (b ∷ s) t h = let q = and-true (p b) (every p s) h in rw (q .0) (ap (λ (l : List ℕ). b ∷ l) (run-through p s t (q .1)))
 
 -- the run of a text that passes, where it does not go on in what stands behind
-pub run-front : (p : ℕ → Bool) (s t : List ℕ) → every p s ≡ true → run p t ≡ [] → run p (s ++ t) ≡ s
+pub run-front : (p : ℕ → Bool) (s t : List ℕ) → every p s ≡ true → frontOf p t ≡ [] → frontOf p (s ++ t) ≡ s
 run-front p s t h e = run-through p s t h ∙ rw e (append-nil s)
 
 -- what stands behind one element more than a text
@@ -36,7 +36,7 @@ lines-none at = refl
 
 -- the line of a text without LF that LF ends, and the lines behind it
 pub lines-front : (a b : List ℕ) (at : ℕ) → every (λ c. not (isLineFeed c)) a ≡ true → linesFrom true at (a ++ 10 ∷ b) ≡ record { start = at; bytes = a; next = at + suc (length a) } ∷ linesFrom true (at + suc (length a)) b
-unfolding lineOf run isLineFeed
+unfolding lineOf frontOf isLineFeed
 lines-front a b at h =
     let r = run-front (λ c. not (isLineFeed c)) a (10 ∷ b) h refl in
     let l : length (take (suc (length a)) (a ++ 10 ∷ b)) ≡ suc (length a) = omega (arith, length-take (suc (length a)) (a ++ 10 ∷ b), length-append a (10 ∷ b)) in
@@ -53,7 +53,7 @@ unfolding tokensFrom
 tokens-space s at b e = rw e
 
 -- the token of a text without white space, where it does not go on in what stands behind, and the tokens behind it
-pub tokens-front : (t rest : List ℕ) (at : ℕ) → 0 < length t → every (λ b. not (isSpace b)) t ≡ true → run (λ b. not (isSpace b)) rest ≡ [] → tokensFrom true at (t ++ rest) ≡ record { start = at; bytes = t } ∷ tokensFrom true (at + length t) rest
+pub tokens-front : (t rest : List ℕ) (at : ℕ) → 0 < length t → every (λ b. not (isSpace b)) t ≡ true → frontOf (λ b. not (isSpace b)) rest ≡ [] → tokensFrom true at (t ++ rest) ≡ record { start = at; bytes = t } ∷ tokensFrom true (at + length t) rest
 unfolding every tokenOf
 tokens-front [] rest at h k e = absurd (omega arith)
 tokens-front (b ∷ t) rest at h k e =

@@ -1,5 +1,6 @@
 -- Laws that belong to no one function.
 pub mod RunLaws
+pub mod ScanLaws
 pub mod LineLaws
 pub mod TokenLaws
 pub mod NumberLaws
@@ -7,6 +8,5 @@ pub mod NameLaws
 pub mod ReadingLaws
 pub mod AppendLaws
 pub mod SeenLaws
-pub mod RefusesReadingLaws
 pub mod TypeLaws
 pub mod FirstByteLaws

@@ -12,7 +12,7 @@ use lib.Seq.{drop-cons, drop-drop}
 use borrow.Author.Tests.{ne-eqb}
 use Rattle.refusal.specs.Lists.{every}
 use Rattle.refusal.proofs.ResultLaws.{never}
-use Rattle.text.specs.Bytes.{run, isLineFeed, isSpace, isAllowed}
+use Rattle.text.specs.Bytes.{frontOf, isLineFeed, isSpace, isAllowed}
 use Rattle.text.specs.Lines.{TextLine, lineEnd, lineOf, linesFrom, tokensFrom, arguments, leads}
 use Rattle.text.specs.declared.Class.the-variants.{Until, Space, Allowed}
 use Rattle.text.specs.Scan.{isOf, past}
@@ -23,10 +23,10 @@ inLine b = not (isLineFeed b)
 
 -- the lines behind the one that goes on in the bytes s, which stand at `at`
 abbrev later : ℕ → List ℕ → List TextLine
-later at s = let n = suc (length (run inLine s)) in linesFrom true (at + length (take n s)) (drop n s)
+later at s = let n = suc (length (frontOf inLine s)) in linesFrom true (at + length (take n s)) (drop n s)
 
 lines-later : (s : List ℕ) (at : ℕ) → linesFrom false at s ≡ later at s
-unfolding linesFrom run
+unfolding linesFrom frontOf
 lines-later [] at = refl
 lines-later (b ∷ s) at = go (isLineFeed b) refl (lines-later s (at + 1))
   where
@@ -43,7 +43,7 @@ lines-cons [] at h = absurd (omega arith)
 lines-cons (b ∷ s) at h = ap (λ (l : List TextLine). lineOf at (b ∷ s) ∷ l) (lines-later (b ∷ s) at)
 
 module _ (f : List ℕ) (at e n : ℕ) (h : at < length f) (he : e ≡ past inLine f at) (hn : n ≡ min (e + 1) (length f)) where
-  run-long : length (run inLine (drop at f)) ≡ e - at
+  run-long : length (frontOf inLine (drop at f)) ≡ e - at
   unfolding past
   run-long = omega arith
 
@@ -91,7 +91,7 @@ module _ (line : List ℕ) (at m : ℕ) (h : at ≤ length line) where
     unfolding isOf
     allowed-not = scan-not isAllowed line at m h hm
 
-    pub allowed-place : at + length (run isAllowed (drop at line)) ≡ m
+    pub allowed-place : at + length (frontOf isAllowed (drop at line)) ≡ m
     unfolding isOf
     allowed-place = scan-place isAllowed line at m h hm
 

@@ -7,26 +7,26 @@ use native.Mathlib.Omega.{arith}
 use lib.Dec.{leb}
 use lib.ListN.{length, getD, drop, length-drop}
 use borrow.Author.Tests.{lt-ltb, le-ltb}
-use Rattle.text.specs.Bytes.{run}
+use Rattle.text.specs.Bytes.{frontOf}
 use Rattle.text.specs.Spelling.{isNumeral, decimalFrom, decimal}
 use Rattle.text.specs.declared.Class.the-variants.{Digit}
 use Rattle.text.specs.declared.Number.{Number}
 use Rattle.text.specs.declared.Number.the-variants.{Value, TooBig, Misspelt}
-use Rattle.text.specs.Scan.{isOf, past, magnitude, numberOf}
+use Rattle.text.specs.Scan.{isOf, past, magnitude, numberRead}
 use Rattle.refusal.proofs.BoolLaws.{and-false, and-one}
 use Rattle.text.proofs.RunLaws.{run-more, run-stop, run-end, run-all, scan-bounds, scan-all, scan-not}
 
 -- the number that a run of digits makes behind the number n, from one place to the next
 module _ (p : ℕ → Bool) (f : List ℕ) (i n : ℕ) where
-  pub digits-more : i < length f → p (getD f i 0) ≡ true → decimalFrom n (run p (drop i f)) ≡ decimalFrom (n * 10 + (getD f i 0 - 48)) (run p (drop (i + 1) f))
+  pub digits-more : i < length f → p (getD f i 0) ≡ true → decimalFrom n (frontOf p (drop i f)) ≡ decimalFrom (n * 10 + (getD f i 0 - 48)) (frontOf p (drop (i + 1) f))
   unfolding decimalFrom
   digits-more h e = rw (run-more p f i h e, decimalFrom)
 
-  pub digits-stop : i < length f → p (getD f i 0) ≡ false → decimalFrom n (run p (drop i f)) ≡ n
+  pub digits-stop : i < length f → p (getD f i 0) ≡ false → decimalFrom n (frontOf p (drop i f)) ≡ n
   unfolding decimalFrom
   digits-stop h e = rw (run-stop p f i h e)
 
-  pub digits-end : length f ≤ i → decimalFrom n (run p (drop i f)) ≡ n
+  pub digits-end : length f ≤ i → decimalFrom n (frontOf p (drop i f)) ≡ n
   unfolding decimalFrom
   digits-end h = rw (run-end p f i h)
 
@@ -48,12 +48,12 @@ module _ (s : List ℕ) (n : ℕ) where
 
 -- the number from `at` on, by where its digits stop
 module _ (most : ℕ) (f : List ℕ) (at stop : ℕ) (h : at ≤ length f) (e : stop ≡ past (isOf Digit) f at) where
-  pub number-other : stop < length f → Misspelt ≡ numberOf most (drop at f)
-  unfolding isOf numberOf isNumeral
+  pub number-other : stop < length f → Misspelt ≡ numberRead most (drop at f)
+  unfolding isOf numberRead isNumeral
   number-other l = rw (scan-not (isOf Digit) f at stop h e l, and-false)
 
-  pub number-whole : length f ≤ stop → (n : Number) → n ≡ magnitude (run (isOf Digit) (drop at f)) → cond (leb 1 (stop - at) && leb (stop - at) most) n Misspelt ≡ numberOf most (drop at f)
-  unfolding isOf numberOf isNumeral
+  pub number-whole : length f ≤ stop → (n : Number) → n ≡ magnitude (frontOf (isOf Digit) (drop at f)) → cond (leb 1 (stop - at) && leb (stop - at) most) n Misspelt ≡ numberRead most (drop at f)
+  unfolding isOf numberRead isNumeral
   number-whole l n k =
       let b = scan-bounds (isOf Digit) f at stop h e in
       let z : stop ≡ length f = omega arith in

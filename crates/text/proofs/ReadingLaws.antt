@@ -17,7 +17,7 @@ use Rattle.refusal.specs.Result.{Result, accepted, refused, refusal, _>>=_, _>>
 use Rattle.refusal.proofs.ResultLaws.{Yields, yields-accepted, yields-refused, yields-cond, yields-bind, yields-ensure}
 use Rattle.text.specs.declared.Class.the-variants.{Until, Space, Allowed}
 use Rattle.text.specs.Bytes.{isSpace, isAllowed}
-use Rattle.text.specs.Lines.{TextLine, linesFrom, lines, Token}
+use Rattle.text.specs.Lines.{TextLine, linesFrom, textLines, Token}
 use Rattle.text.specs.Reading.{nextToken, noMoreTokens, readAnyLine, readLines, readText}
 use Rattle.text.specs.Scan.{isOf, past}
 use Rattle.text.proofs.RunLaws.{past-ge, past-le, scan-bounds, strict-within, strict-before}
@@ -47,7 +47,7 @@ module _ {State : Type 0} {P : State → Type 0} (file : Subject) (readLine : St
 
   pub keeps-text : (s : State) (bytes : List ℕ) → P s → Yields P (readText file readLine s bytes)
   unfolding readText
-  keeps-text s bytes h = yields-ensure (leb (length bytes) maxFileBytes) _ λ _. keeps-lines s (lines bytes) h
+  keeps-text s bytes h = yields-ensure (leb (length bytes) maxFileBytes) _ λ _. keeps-lines s (textLines bytes) h
 
 -- the line from `at` to the end of a text
 abbrev lineAt : List ℕ → ℕ → ℕ → TextLine
@@ -86,19 +86,19 @@ module _ {State : Type 0} (file : Subject) (readLine : State → TextLine → Re
   module _ (start : State) (bytes : List ℕ) where
     pub record Reading (s : State) (i : ℕ) : Type 0 where
       pub within : i ≤ length bytes
-      pub rest : readLines file readLine s (linesFrom true i (drop i bytes)) ≡ readLines file readLine start (lines bytes)
+      pub rest : readLines file readLine s (linesFrom true i (drop i bytes)) ≡ readLines file readLine start (textLines bytes)
 
     pub reading-starts : Reading start 0
     reading-starts = record { within = omega arith; rest = refl }
 
     module _ {s : State} {i : ℕ} (inv : Reading s i) where
-      pub reading-ends : length bytes ≤ i → accepted s ≡ readLines file readLine start (lines bytes)
+      pub reading-ends : length bytes ≤ i → accepted s ≡ readLines file readLine start (textLines bytes)
       unfolding readLines
       reading-ends h = rw (lines-end bytes i h) at (inv .rest)
 
       -- the line at i ends at `stop`, and the next starts at `next`
       module _ (stop next : ℕ) (h : i < length bytes) (hs : stop ≡ past (isOf (Until 10)) bytes i) (hn : next ≡ min (stop + 1) (length bytes)) where
-        pub reading-stops : (r : Refusal) → refused r ≡ readAnyLine file readLine s (lineAt (take stop bytes) i next) → refused r ≡ readLines file readLine start (lines bytes)
+        pub reading-stops : (r : Refusal) → refused r ≡ readAnyLine file readLine s (lineAt (take stop bytes) i next) → refused r ≡ readLines file readLine start (textLines bytes)
         unfolding readLines
         reading-stops r e = rw (← e) at (rw (lines-turn bytes i stop next h hs hn) at (inv .rest))
 
@@ -107,7 +107,7 @@ module _ {State : Type 0} (file : Subject) (readLine : State → TextLine → Re
         reading-goes t e = record { within = omega arith; rest = rw (← e) at (rw (lines-turn bytes i stop next h hs hn) at (inv .rest)) }
 
       -- a byte that is not allowed stands at `bad`, and does not end the line
-      pub reading-faults : (bad : ℕ) → i < length bytes → bad ≡ past (isOf Allowed) bytes i → bad < length bytes → (getD bytes bad 0 ≡ 10 → ⊥) → refused (refusal file byteNotAllowed bad) ≡ readLines file readLine start (lines bytes)
+      pub reading-faults : (bad : ℕ) → i < length bytes → bad ≡ past (isOf Allowed) bytes i → bad < length bytes → (getD bytes bad 0 ≡ 10 → ⊥) → refused (refusal file byteNotAllowed bad) ≡ readLines file readLine start (textLines bytes)
       reading-faults bad h hb l k =
           let g : i ≤ length bytes = omega arith in
           let stop = past (isOf (Until 10)) bytes i in
@@ -121,6 +121,6 @@ module _ {State : Type 0} (file : Subject) (readLine : State → TextLine → Re
     unfolding readText
     text-long h = rw (lt-leb (length bytes) maxFileBytes h)
 
-    pub text-lines : length bytes ≤ maxFileBytes → readLines file readLine s (lines bytes) ≡ readText file readLine s bytes
+    pub text-lines : length bytes ≤ maxFileBytes → readLines file readLine s (textLines bytes) ≡ readText file readLine s bytes
     unfolding readText
     text-lines h = rw (le-leb (length bytes) maxFileBytes h)

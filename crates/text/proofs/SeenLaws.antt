@@ -8,16 +8,16 @@ use lib.Dec.{eqb, leb}
 use borrow.Author.Tests.{le-leb, lt-leb, leb-true, eqb-true, ne-eqb}
 use Rattle.refusal.specs.Lists.{every}
 use Rattle.refusal.proofs.BoolLaws.{and-false, and-true, either}
-use Rattle.text.specs.Bytes.{within, isSpace, isLineFeed, isAllowed, isDigit, isLetter, isNameByte}
+use Rattle.text.specs.Bytes.{between, isSpace, isLineFeed, isAllowed, isDigit, isLetter, isNameByte}
 use Rattle.text.specs.Spelling.{isName}
 use Rattle.refusal.proofs.ListLaws.{every-weaken}
 
 -- a byte that is seen: it is allowed, and it is neither white space nor LF
 unfoldable pub isSeen : ℕ → Bool
-isSeen = within 33 126
+isSeen = between 33 126
 
 -- the bounds of a byte from a to z
-bounds : (a z b : ℕ) → within a z b ≡ true → (a ≤ b) × (b ≤ z)
+bounds : (a z b : ℕ) → between a z b ≡ true → (a ≤ b) × (b ≤ z)
 bounds a z b e = let q = and-true (leb a b) (leb b z) e in (leb-true a b (q .0), leb-true b z (q .1))
 
 -- what a byte is that is seen

@@ -5,13 +5,13 @@ use mathlib.Core.List.{List, [], _∷_, _++_}
 use mathlib.Core.Bool.{Bool, true, false, not}
 use native.Mathlib.Nat.{add-zero}
 use native.Mathlib.Omega.{arith}
-use lib.ListN.{length, getD, take, drop, drop-of-length-le, length-append}
+use lib.ListN.{length, getD, take, drop, drop-of-length-le, length-drop, length-append}
 use lib.Seq.{drop-cons, drop-drop, drop-at}
-use Rattle.text.specs.Bytes.{run, isSpace}
-use Rattle.text.specs.Lines.{Token, tokenOf, tokensFrom}
+use Rattle.text.specs.Bytes.{frontOf, isSpace}
+use Rattle.text.specs.Lines.{Token, tokenOf, tokensFrom, arguments, lineEnd}
 use Rattle.text.specs.Spelling.{upTo, behind}
 use Rattle.text.specs.declared.Class.the-variants.{Until, Space, Solid}
-use Rattle.text.specs.Scan.{isOf, past}
+use Rattle.text.specs.Scan.{isOf, past, lineAt}
 use Rattle.text.proofs.RunLaws.{past-more, past-ge, past-le, past-fails, run-part, every-of-run, scan-bounds}
 use lib.Dec.{eqb}
 use borrow.Author.Tests.{eqb-true, eq-eqb}
@@ -23,14 +23,14 @@ solid b = not (isSpace b)
 
 -- the tokens behind the run at the front of the bytes s, which stand at `at`
 abbrev later : (ℕ → Bool) → ℕ → List ℕ → List Token
-later p at s = tokensFrom true (at + length (run p s)) (drop (length (run p s)) s)
+later p at s = tokensFrom true (at + length (frontOf p s)) (drop (length (frontOf p s)) s)
 
 shift : (a n : ℕ) → a + 1 + n ≡ a + suc n
 shift a n = omega arith
 
 -- from white space
 tokens-spaces : (s : List ℕ) (at : ℕ) → tokensFrom true at s ≡ later isSpace at s
-unfolding tokensFrom run
+unfolding tokensFrom frontOf
 tokens-spaces [] at = refl
 tokens-spaces (b ∷ s) at = go (isSpace b) refl (tokens-spaces s (at + 1))
   where
@@ -40,7 +40,7 @@ tokens-spaces (b ∷ s) at = go (isSpace b) refl (tokens-spaces s (at + 1))
 
 -- from inside a token
 tokens-rest : (s : List ℕ) (at : ℕ) → tokensFrom false at s ≡ later solid at s
-unfolding tokensFrom run
+unfolding tokensFrom frontOf
 tokens-rest [] at = refl
 tokens-rest (b ∷ s) at = go (isSpace b) refl (tokens-rest s (at + 1))
   where
@@ -108,7 +108,7 @@ module _ (f : List ℕ) (at c m : ℕ) (h : at ≤ length f) (hm : m ≡ past (i
 
 -- a text with bytes behind its first byte c is the part in front of c, c, and the part behind it
 pub parts-join : (c : ℕ) (s : List ℕ) → 1 ≤ length (behind c s) → s ≡ upTo c s ++ (c ∷ []) ++ behind c s
-unfolding upTo behind run
+unfolding upTo behind frontOf
 parts-join c [] h = absurd (omega arith)
 parts-join c (b ∷ s) h = go (eqb b c) refl (parts-join c s)
   where
@@ -119,10 +119,17 @@ parts-join c (b ∷ s) h = go (eqb b c) refl (parts-join c s)
 -- those parts of a text that is made of them
 module _ (c : ℕ) (t : List ℕ) where
   pub up-to-join : (s : List ℕ) → every (λ b. not (eqb b c)) s ≡ true → upTo c (s ++ (c ∷ []) ++ t) ≡ s
-  unfolding upTo run every
+  unfolding upTo frontOf every
   up-to-join [] e = rw (eq-eqb c c refl)
   up-to-join (b ∷ s) e = let p = and-true (not (eqb b c)) (every (λ b. not (eqb b c)) s) e in rw (p .0) (ap (λ (l : List ℕ). b ∷ l) (up-to-join s (p .1)))
 
   pub behind-join : (s : List ℕ) → every (λ b. not (eqb b c)) s ≡ true → behind c (s ++ (c ∷ []) ++ t) ≡ t
   unfolding behind
   behind-join s e = rw (up-to-join s e) (drop-at (s ++ (c ∷ [])) t (suc (length s)) (length-append s (c ∷ []) ∙ omega arith))
+
+-- a line's tokens behind its first byte, and its end
+pub arguments-at : (line : List ℕ) (at next : ℕ) → arguments (lineAt line at next) ≡ tokensFrom true (at + 1) (drop (at + 1) line)
+arguments-at line at next = ap (tokensFrom true (at + 1)) (drop-drop 1 at line)
+
+pub end-at : (line : List ℕ) (at next : ℕ) → at ≤ length line → lineEnd (lineAt line at next) ≡ length line
+end-at line at next h = omega (arith, length-drop at line)

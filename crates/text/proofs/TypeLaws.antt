@@ -12,7 +12,7 @@ use Rattle.edition.specs.Edition.{isWidth}
 use Rattle.refusal.specs.Lists.{every}
 use Rattle.refusal.proofs.BoolLaws.{and-false, and-true}
 use Rattle.refusal.proofs.ResultLaws.{never}
-use Rattle.text.specs.Bytes.{run, isSpace, isDigit}
+use Rattle.text.specs.Bytes.{frontOf, isSpace, isDigit}
 use Rattle.text.specs.Spelling.{isNumeral, decimalFrom, leadingZero, isType}
 use Rattle.text.specs.declared.Class.the-variants.{Solid}
 use Rattle.text.specs.declared.TypeRead.{TypeRead}
@@ -24,7 +24,7 @@ use Rattle.text.proofs.FirstByteLaws.{digit-solid, goes-on}
 
 -- the token that a text starts with
 abbrev token : List ℕ → List ℕ
-token = run (isOf Solid)
+token = frontOf (isOf Solid)
 
 -- a width that is spelt right
 abbrev widthOf : ℕ → TypeRead
@@ -32,7 +32,7 @@ widthOf k = cond (isWidth k) (Width k) NoWidth
 
 -- what holds of no bytes and of a byte in front of a token holds of the token there, whether that byte is white space or not
 token-split : (P : List ℕ → Type 0) (b : ℕ) (s : List ℕ) → P [] → P (b ∷ token s) → P (token (b ∷ s))
-unfolding run
+unfolding frontOf
 token-split P b s none some = go (isOf Solid b)
   where
     go : (t : Bool) → P (cond t (b ∷ token s) [])
@@ -41,17 +41,17 @@ token-split P b s none some = go (isOf Solid b)
 
 -- a token by its first byte
 token-more : (b : ℕ) (s : List ℕ) → isOf Solid b ≡ true → token (b ∷ s) ≡ b ∷ token s
-unfolding run
+unfolding frontOf
 token-more b s e = rw e
 
 -- a token that ends, or goes on
 token-ends : (s : List ℕ) → endsToken s ≡ true → token s ≡ []
-unfolding run isOf endsToken
+unfolding frontOf isOf endsToken
 token-ends [] e = refl
 token-ends (b ∷ s) e = rw e
 
 token-goes : (s : List ℕ) → endsToken s ≡ false → 0 < length (token s)
-unfolding run isOf endsToken
+unfolding frontOf isOf endsToken
 token-goes [] e = never (cc e)
 token-goes (b ∷ s) e = rw e (omega arith)
 

@@ -13,13 +13,13 @@ same (a ∷ s) [] = false
 same (a ∷ s) (b ∷ t) = eqb a b && same s t
 
 -- the longest front of s whose bytes all pass the test
-unfoldable pub run : (ℕ → Bool) → List ℕ → List ℕ
-run test [] = []
-run test (b ∷ s) = let more = b ∷ run test s in cond (test b) more []
+unfoldable pub frontOf : (ℕ → Bool) → List ℕ → List ℕ
+frontOf test [] = []
+frontOf test (b ∷ s) = let more = b ∷ frontOf test s in cond (test b) more []
 
 -- from a to z, both included
-abbrev pub within : ℕ → ℕ → ℕ → Bool
-within a z b = leb a b && leb b z
+abbrev pub between : ℕ → ℕ → ℕ → Bool
+between a z b = leb a b && leb b z
 
 -- "White space is spaces and tabs"
 unfoldable pub isSpace : ℕ → Bool
@@ -31,14 +31,14 @@ isLineFeed b = eqb b (code "\n")
 
 -- the bytes allowed in a line: "tab, LF, 32 to 126", of which LF ends it
 unfoldable pub isAllowed : ℕ → Bool
-isAllowed b = eqb b (code "\t") || within 32 126 b
+isAllowed b = eqb b (code "\t") || between 32 126 b
 
 -- digits and letters
 unfoldable pub isDigit : ℕ → Bool
-isDigit = within (code "0") (code "9")
+isDigit = between (code "0") (code "9")
 
 unfoldable pub isLetter : ℕ → Bool
-isLetter b = within (code "a") (code "z") b || within (code "A") (code "Z") b
+isLetter b = between (code "a") (code "z") b || between (code "A") (code "Z") b
 
 -- the bytes of a name behind its first: "letters, digits, underscores"
 unfoldable pub isNameByte : ℕ → Bool

@@ -4,7 +4,7 @@ use mathlib.Core.Bool.{Bool, true, false, cond, not, _&&_}
 use mathlib.Core.List.{List, [], _∷_}
 use lib.Dec.{eqb}
 use lib.ListN.{length, take, drop}
-use Rattle.text.specs.Bytes.{run, isSpace, isLineFeed}
+use Rattle.text.specs.Bytes.{frontOf, isSpace, isLineFeed}
 
 -- a line: where its content starts, its content, and where the next line starts (behind the last line, the end of the file)
 pub record TextLine : Type 0 where
@@ -18,7 +18,7 @@ lineEnd l = l .start + length (l .bytes)
 
 -- the line that begins with the first of the bytes s, which stands at `at`: "Lines end at LF or at the end of the file"
 unfoldable pub lineOf : ℕ → List ℕ → TextLine
-lineOf at s = let bytes = run (λ b. not (isLineFeed b)) s in record { start = at; bytes = bytes; next = at + length (take (suc (length bytes)) s) }
+lineOf at s = let bytes = frontOf (λ b. not (isLineFeed b)) s in record { start = at; bytes = bytes; next = at + length (take (suc (length bytes)) s) }
 
 -- the lines that begin in the bytes s, which stand at `at`: one at the first byte, if `begins` says so, and one behind each LF
 unfoldable pub linesFrom : Bool → ℕ → List ℕ → List TextLine
@@ -26,8 +26,8 @@ linesFrom begins at [] = []
 linesFrom begins at (b ∷ s) = let rest = linesFrom (isLineFeed b) (at + 1) s in cond begins (lineOf at (b ∷ s) ∷ rest) rest
 
 -- the lines of a file
-abbrev pub lines : List ℕ → List TextLine
-lines = linesFrom true 0
+abbrev pub textLines : List ℕ → List TextLine
+textLines = linesFrom true 0
 
 -- a token: where it starts, and its bytes
 pub record Token : Type 0 where
@@ -36,7 +36,7 @@ pub record Token : Type 0 where
 
 -- the token that begins with the first of the bytes s: the longest run without white space
 unfoldable pub tokenOf : ℕ → List ℕ → Token
-tokenOf at s = record { start = at; bytes = run (λ b. not (isSpace b)) s }
+tokenOf at s = record { start = at; bytes = frontOf (λ b. not (isSpace b)) s }
 
 -- the tokens that begin in the bytes s, which stand at `at`: one at the first byte, if `begins` says so, and one behind white space, but none at white space
 unfoldable pub tokensFrom : Bool → ℕ → List ℕ → List Token

@@ -18,8 +18,11 @@ ghost use Rattle.edition.specs.Edition.{isWidth};
 ghost use Rattle.text.specs.declared.Class.the-variants.{Digit, Solid};
 ghost use Rattle.text.specs.declared.Number.the-variants.{TooBig, Misspelt};
 ghost use Rattle.text.specs.declared.TypeRead.the-variants.{Width, NoWidth, NoType};
-ghost use Rattle.text.specs.Bytes.{run};
-ghost use Rattle.text.specs.Scan.{isOf, past, magnitude, numberOf, typeOf, typeBehindColon, StopsAt};
+ghost use Rattle.text.specs.Bytes.{frontOf};
+ghost use Rattle.text.specs.Scan.{isOf, past, magnitude, numberRead, typeOf, typeBehindColon, StopsAt};
+
+// The digits of a constant or a value, at most.
+pub const MAX_DIGITS: usize = 20;
 
 // Digits whose number has passed 2^64 at `at`.
 fn too_big(text: &[u8], at: usize) -> Digits
@@ -35,7 +38,7 @@ fn too_big(text: &[u8], at: usize) -> Digits
 // The digits from `at` on; where none stand there, their number is 0.
 pub fn digits_at(text: &[u8], at: usize) -> Digits
     requires { ⌜ at ≤ length (now text) ⌝ }
-    ensures { λ r. ⌜ (r .number ≡ magnitude (run (isOf Digit) (drop at (now (text .entry))))) × (r .stop ≡ past (isOf Digit) (now (text .entry)) at) ⌝ }
+    ensures { λ r. ⌜ (r .number ≡ magnitude (frontOf (isOf Digit) (drop at (now (text .entry))))) × (r .stop ≡ past (isOf Digit) (now (text .entry)) at) ⌝ }
 {
     let mut n: u64 = 0;
     let mut i = at;
@@ -79,7 +82,7 @@ pub fn counted(number: Number, digits: usize, most: usize) -> Number
 // The number of 1 to `most` digits from `at` to the end.
 pub fn number_at(text: &[u8], at: usize, most: usize) -> Number
     requires { ⌜ at ≤ length (now text) ⌝ }
-    ensures { λ r. ⌜ r ≡ numberOf most (drop at (now (text .entry))) ⌝ }
+    ensures { λ r. ⌜ r ≡ numberRead most (drop at (now (text .entry))) ⌝ }
 {
     let digits = digits_at(text, at);
     let stop = digits.stop;
@@ -93,7 +96,7 @@ pub fn number_at(text: &[u8], at: usize, most: usize) -> Number
 // The number of 1 to `most` digits behind the byte at `at`; none where the text ends there.
 pub fn number_behind(text: &[u8], at: usize, most: usize) -> Number
     requires { ⌜ at ≤ length (now text) ⌝ }
-    ensures { λ r. ⌜ r ≡ numberOf most (drop (at + 1) (now (text .entry))) ⌝ }
+    ensures { λ r. ⌜ r ≡ numberRead most (drop (at + 1) (now (text .entry))) ⌝ }
 {
     if at < text.len() {
         let next = at + 1;
@@ -127,7 +130,7 @@ fn no_type(at: usize) -> TypeFound
 // The K of a type, from `at` to the end of the token: one or two digits.
 fn width_at(line: &[u8], at: usize) -> TypeFound
     requires { ⌜ at ≤ length (now line) ⌝ }
-    ensures { λ r. ⌜ (r .kind ≡ typeOf (105 ∷ run (isOf Solid) (drop at (now (line .entry))))) × StopsAt (past (isOf Solid) (now (line .entry)) at) (r .stop) (r .kind) ⌝ }
+    ensures { λ r. ⌜ (r .kind ≡ typeOf (105 ∷ frontOf (isOf Solid) (drop at (now (line .entry))))) × StopsAt (past (isOf Solid) (now (line .entry)) at) (r .stop) (r .kind) ⌝ }
 {
     if at == line.len() {
         return no_type(at);
@@ -160,7 +163,7 @@ fn width_at(line: &[u8], at: usize) -> TypeFound
 // The colon and the type `iK` from `at` to the end of the token; where they are not there, it is left open where the token stops.
 pub fn type_at(line: &[u8], at: usize) -> TypeFound
     requires { ⌜ at ≤ length (now line) ⌝ }
-    ensures { λ r. ⌜ (r .kind ≡ typeBehindColon (run (isOf Solid) (drop at (now (line .entry))))) × StopsAt (past (isOf Solid) (now (line .entry)) at) (r .stop) (r .kind) ⌝ }
+    ensures { λ r. ⌜ (r .kind ≡ typeBehindColon (frontOf (isOf Solid) (drop at (now (line .entry))))) × StopsAt (past (isOf Solid) (now (line .entry)) at) (r .stop) (r .kind) ⌝ }
 {
     if line.len() - at < 2 {
         return no_type(at);

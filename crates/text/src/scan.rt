@@ -11,7 +11,7 @@ ghost use Rattle.text.specs.Bytes.{isSpace, isDigit, isLetter, isNameByt
 ghost use Rattle.text.specs.Lines.{tokensFrom, leads as leadsBy};
 ghost use Rattle.text.specs.Spelling.{isName};
 ghost use Rattle.text.specs.declared.Class.the-variants.{Space, NameByte, Allowed};
-ghost use Rattle.text.specs.Scan.{isOf, past, endsToken, tokensBy, Within};
+ghost use Rattle.text.specs.Scan.{isOf, past, Scanned, endsToken, tokensBy, Within};
 
 fn is_space(b: u8) -> bool
     ensures { λ r. ⌜ r ≡ isSpace b ⌝ }
@@ -121,7 +121,7 @@ pub fn token_ends(line: &[u8], at: usize) -> bool
 // Passes over printing bytes from `at` on: most of a line, by one test each.
 fn printing(text: &[u8], at: usize) -> usize
     requires { ⌜ at ≤ length (now text) ⌝ }
-    ensures { λ r. ⌜ (r ≤ length (now (text .entry))) × (past (isOf Allowed) (now (text .entry)) r ≡ past (isOf Allowed) (now (text .entry)) at) × (at ≤ r) ⌝ }
+    ensures { λ r. ⌜ Scanned (isOf Allowed) (now (text .entry)) at r ⌝ }
 {
     let mut i = at;
     while i < text.len() {

@@ -6,15 +6,15 @@ use native.Mathlib.Omega.{arith}
 use lib.ListN.{length, length-append}
 use Rattle.refusal.specs.Words.{ascii}
 use Rattle.constraint.specs.File.{Variable}
-use Rattle.constraint.specs.Tables.{tabulate, variablesIn}
-use Rattle.constraint.proofs.LookupLaws.{variables-length}
-use Rattle.answer.specs.Words.{satisfiable}
-use Rattle.writer.specs.Text.{settings, valuesLine, answerText}
-use Rattle.writer.specs.Places.{Put}
-use Rattle.writer.proofs.PlaceLaws.{put-none, put-then}
+use Rattle.store.specs.Tables.{tabulate, variablesIn}
+use Rattle.store.proofs.LookupLaws.{variables-length}
+use Rattle.answer.specs.SolutionWords.{satisfiable}
+use Rattle.writer.specs.Text.{settingsText, valuesLine, answerText}
+use Rattle.printing.specs.Places.{Put}
+use Rattle.printing.proofs.PlaceLaws.{put-none, put-then}
 
 -- the line of values of one variable or more
-line-some : (xs : List Variable) (row : List ℕ) → 0 < length xs → valuesLine xs row ≡ ascii "v" ++ settings xs row ++ ascii "\n"
+line-some : (xs : List Variable) (row : List ℕ) → 0 < length xs → valuesLine xs row ≡ ascii "v" ++ settingsText xs row ++ ascii "\n"
 unfolding valuesLine
 line-some [] row h = let z : ⊥ = omega arith in absurd z
 line-some (x ∷ xs) row h = refl
@@ -50,17 +50,17 @@ module _ (file starts lens widths : List ℕ) (n : ℕ) (row : List ℕ) where
 
   -- ---- variables, and a line of values
   module _ (h : ¬ (n ≡ 0)) where
-    values-some : valuesLine xs row ≡ ascii "v" ++ settings xs row ++ ascii "\n"
+    values-some : valuesLine xs row ≡ ascii "v" ++ settingsText xs row ++ ascii "\n"
     values-some = line-some xs row (omega (arith, variables-length file starts lens widths n))
 
-    pub values-length : length (valuesLine xs row) ≡ 2 + length (settings xs row)
-    values-length = ap length values-some ∙ omega (arith, length-append (settings xs row) (ascii "\n"))
+    pub values-length : length (valuesLine xs row) ≡ 2 + length (settingsText xs row)
+    values-length = ap length values-some ∙ omega (arith, length-append (settingsText xs row) (ascii "\n"))
 
-    pub answer-more : {len : ℕ} → len ≡ length (settings xs row) → 16 + len ≡ length (answerText xs row)
+    pub answer-more : {len : ℕ} → len ≡ length (settingsText xs row) → 16 + len ≡ length (answerText xs row)
     answer-more e = omega (arith, answer-length, values-length)
 
     pub put-values : {room : List ℕ} {at : ℕ} → at + length (valuesLine xs row) ≤ length room
         → {end₁ end₂ end₃ : ℕ} {room₁ room₂ room₃ : List ℕ}
-        → Put (ascii "v") room at end₁ room₁ → Put (settings xs row) room₁ end₁ end₂ room₂ → Put (ascii "\n") room₂ end₂ end₃ room₃
+        → Put (ascii "v") room at end₁ room₁ → Put (settingsText xs row) room₁ end₁ end₂ room₂ → Put (ascii "\n") room₂ end₂ end₃ room₃
         → Put (valuesLine xs row) room at end₃ room₃
     put-values k p q r = rw values-some (put-then (rw values-some at k) (put-then (omega (arith, values-length)) p q) r)

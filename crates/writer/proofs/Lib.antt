@@ -1,13 +1,10 @@
 -- Laws that belong to no one function.
 pub mod ListLaws
-pub mod PlaceLaws
-pub mod DigitLaws
 pub mod PartLaws
 pub mod SettingLaws
 pub mod LoopLaws
 pub mod AnswerLaws
 pub mod OutcomeLaws
-pub mod DecimalLaws
 pub mod PrintableLaws
 pub mod PrintedLines
 pub mod PrintedTokens

@@ -12,8 +12,8 @@ use Rattle.writer.specs.declared.WriteReply.{WriteReply}
 use Rattle.writer.specs.declared.WriteReply.the-variants.{Written, Refused}
 use Rattle.writer.specs.Text.{answerText}
 use Rattle.writer.specs.Write.{WriteOutcome, roomFor, written}
-use Rattle.writer.specs.Places.{Put}
-use Rattle.writer.proofs.PlaceLaws.{placed-front}
+use Rattle.printing.specs.Places.{Put}
+use Rattle.printing.proofs.PlaceLaws.{placed-front}
 
 -- the answer's length is known
 module _ (xs : List Variable) (row output : List ℕ) {len : ℕ} (l : len ≡ length (answerText xs row)) where

@@ -10,14 +10,15 @@ use Rattle.edition.specs.declared.Edition.{Edition}
 use Rattle.edition.specs.Edition.{maxNameBytes}
 use Rattle.refusal.specs.Lists.{every}
 use Rattle.refusal.specs.Words.{ascii}
-use Rattle.text.specs.Bytes.{run, isSpace}
+use Rattle.text.specs.Bytes.{frontOf, isSpace}
 use Rattle.text.specs.Spelling.{isName, maxDigits, numberBound}
 use Rattle.constraint.specs.File.{Variable, widthAt}
-use Rattle.constraint.specs.Claims.{Each, SoundVariable}
-use Rattle.writer.specs.Text.{digits, setting, settings}
+use Rattle.constraint.specs.Sound.{Each, SoundVariable}
+use Rattle.printing.specs.Digits.{digits}
+use Rattle.writer.specs.Text.{settingText, settingsText}
 use Rattle.refusal.proofs.ListLaws.{every-append, every-weaken}
-use Rattle.writer.proofs.DigitLaws.{digits-count}
-use Rattle.writer.proofs.DecimalLaws.{digits-all}
+use Rattle.printing.proofs.DigitLaws.{digits-count}
+use Rattle.printing.proofs.DecimalLaws.{digits-all}
 use Rattle.text.proofs.SeenLaws.{isSeen, name-seen, numeral-seen}
 
 -- a variable with a short name, and a value that fits it
@@ -50,12 +51,12 @@ abbrev pub settingBytes : Variable → ℕ → List ℕ
 settingBytes x v = x .name ++ ascii "=" ++ digits v
 
 -- the clauses of `settings`, as laws
-pub settings-none : (row : List ℕ) → settings [] row ≡ []
-unfolding settings zipWith flatten
+pub settings-none : (row : List ℕ) → settingsText [] row ≡ []
+unfolding settingsText zipWith flatten
 settings-none row = refl
 
-pub settings-more : (x : Variable) (xs : List Variable) (v : ℕ) (row : List ℕ) → settings (x ∷ xs) (v ∷ row) ≡ 32 ∷ settingBytes x v ++ settings xs row
-unfolding settings setting zipWith flatten
+pub settings-more : (x : Variable) (xs : List Variable) (v : ℕ) (row : List ℕ) → settingsText (x ∷ xs) (v ∷ row) ≡ 32 ∷ settingBytes x v ++ settingsText xs row
+unfolding settingsText settingText zipWith flatten
 settings-more x xs v row = refl
 
 -- a setting's bytes are seen
@@ -64,21 +65,21 @@ unfolding every isSeen
 setting-seen x v e = every-append isSeen (x .name ++ ascii "=") (digits v) (every-append isSeen (x .name) (ascii "=") (name-seen (x .name) e) refl) (numeral-seen (digits v) (digits-all v))
 
 -- the bytes of settings are seen, or they are spaces: they pass a test that these pass
-pub settings-every : (p : ℕ → Bool) → p 32 ≡ true → ((b : ℕ) → isSeen b ≡ true → p b ≡ true) → (xs : List Variable) (row : List ℕ) → Printables xs row → every p (settings xs row) ≡ true
+pub settings-every : (p : ℕ → Bool) → p 32 ≡ true → ((b : ℕ) → isSeen b ≡ true → p b ≡ true) → (xs : List Variable) (row : List ℕ) → Printables xs row → every p (settingsText xs row) ≡ true
 unfolding every
 settings-every p h f [] row g = rw settings-none
 settings-every p h f (x ∷ xs) [] g = absurd g
-settings-every p h f (x ∷ xs) (v ∷ row) g = rw (settings-more x xs v row, h) (every-append p (settingBytes x v) (settings xs row) (every-weaken isSeen p f (settingBytes x v) (setting-seen x v (g .0 .spelt))) (settings-every p h f xs row (g .1)))
+settings-every p h f (x ∷ xs) (v ∷ row) g = rw (settings-more x xs v row, h) (every-append p (settingBytes x v) (settingsText xs row) (every-weaken isSeen p f (settingBytes x v) (setting-seen x v (g .0 .spelt))) (settings-every p h f xs row (g .1)))
 
 -- how long settings are, at most
-pub settings-short : (xs : List Variable) (row : List ℕ) → Printables xs row → length (settings xs row) ≤ length xs * (2 + maxNameBytes + maxDigits)
+pub settings-short : (xs : List Variable) (row : List ℕ) → Printables xs row → length (settingsText xs row) ≤ length xs * (2 + maxNameBytes + maxDigits)
 settings-short [] row g = rw settings-none (omega arith)
 settings-short (x ∷ xs) [] g = absurd g
-settings-short (x ∷ xs) (v ∷ row) g = rw (settings-more x xs v row) (omega (arith, g .0 .short, digits-count v, settings-short xs row (g .1), length-append (settingBytes x v) (settings xs row), length-append (x .name ++ ascii "=") (digits v), length-append (x .name) (ascii "=")))
+settings-short (x ∷ xs) (v ∷ row) g = rw (settings-more x xs v row) (omega (arith, g .0 .short, digits-count v, settings-short xs row (g .1), length-append (settingBytes x v) (settingsText xs row), length-append (x .name ++ ascii "=") (digits v), length-append (x .name) (ascii "=")))
 
 -- a token in front of settings does not go on in them
-pub settings-stop : (xs : List Variable) (row : List ℕ) → run (λ b. not (isSpace b)) (settings xs row) ≡ []
-unfolding run isSpace settings zipWith flatten setting
+pub settings-stop : (xs : List Variable) (row : List ℕ) → frontOf (λ b. not (isSpace b)) (settingsText xs row) ≡ []
+unfolding frontOf isSpace settingsText zipWith flatten settingText
 settings-stop [] row = refl
 settings-stop (x ∷ xs) [] = refl
 settings-stop (x ∷ xs) (v ∷ row) = refl

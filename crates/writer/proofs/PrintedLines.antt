@@ -7,10 +7,10 @@ use lib.ListN.{length}
 use Rattle.refusal.specs.Lists.{every}
 use Rattle.refusal.specs.Words.{ascii}
 use Rattle.text.specs.Bytes.{isLineFeed}
-use Rattle.text.specs.Lines.{TextLine, lines}
+use Rattle.text.specs.Lines.{TextLine, textLines}
 use Rattle.constraint.specs.File.{Variable}
-use Rattle.answer.specs.Words.{satisfiable}
-use Rattle.writer.specs.Text.{settings, valuesLine, answerText}
+use Rattle.answer.specs.SolutionWords.{satisfiable}
+use Rattle.writer.specs.Text.{settingsText, valuesLine, answerText}
 use Rattle.text.proofs.AppendLaws.{lines-none, lines-front}
 use Rattle.text.proofs.SeenLaws.{seen-in-line}
 use Rattle.writer.proofs.PrintableLaws.{Printables, settings-every}
@@ -22,12 +22,12 @@ solutionLine = record { start = 0; bytes = ascii "s " ++ satisfiable; next = 14 
 -- the line of the values, if there are variables
 abbrev pub valueLines : List Variable → List ℕ → List TextLine
 valueLines [] row = []
-valueLines (x ∷ xs) row = record { start = 14; bytes = ascii "v" ++ settings (x ∷ xs) row; next = 14 + suc (suc (length (settings (x ∷ xs) row))) } ∷ []
+valueLines (x ∷ xs) row = record { start = 14; bytes = ascii "v" ++ settingsText (x ∷ xs) row; next = 14 + suc (suc (length (settingsText (x ∷ xs) row))) } ∷ []
 
 -- the lines of the text
-pub text-lines : (xs : List Variable) (row : List ℕ) → Printables xs row → lines (answerText xs row) ≡ solutionLine ∷ valueLines xs row
+pub text-lines : (xs : List Variable) (row : List ℕ) → Printables xs row → textLines (answerText xs row) ≡ solutionLine ∷ valueLines xs row
 unfolding answerText valuesLine every isLineFeed
 text-lines [] row g = lines-front (ascii "s " ++ satisfiable) [] 0 refl ∙ rw lines-none
 text-lines (x ∷ xs) row g =
     lines-front (ascii "s " ++ satisfiable) (valuesLine (x ∷ xs) row) 0 refl
-    ∙ ap (λ (ls : List TextLine). solutionLine ∷ ls) (lines-front (ascii "v" ++ settings (x ∷ xs) row) [] 14 (settings-every (λ b. not (isLineFeed b)) refl seen-in-line (x ∷ xs) row g) ∙ rw lines-none)
+    ∙ ap (λ (ls : List TextLine). solutionLine ∷ ls) (lines-front (ascii "v" ++ settingsText (x ∷ xs) row) [] 14 (settings-every (λ b. not (isLineFeed b)) refl seen-in-line (x ∷ xs) row g) ∙ rw lines-none)

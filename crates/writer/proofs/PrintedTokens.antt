@@ -12,14 +12,15 @@ use Rattle.text.specs.Lines.{Token, tokensFrom}
 use Rattle.text.specs.Spelling.{decimal, upTo, behind}
 use Rattle.text.proofs.NameLaws.{same-self, same-false}
 use Rattle.constraint.specs.File.{Variable, variableAt, nameAt, widthAt}
-use Rattle.constraint.specs.Claims.{Each, Distinct}
+use Rattle.constraint.specs.Sound.{Each, Distinct}
 use Rattle.constraint.proofs.EachLaws.{each-map, each-at}
 use Rattle.answer.specs.Claims.{IsSetting}
-use Rattle.writer.specs.Text.{digits, settings}
+use Rattle.printing.specs.Digits.{digits}
+use Rattle.writer.specs.Text.{settingsText}
 use Rattle.refusal.proofs.ListLaws.{every-weaken}
 use Rattle.text.proofs.AppendLaws.{tokens-none, tokens-space, tokens-front}
 use Rattle.text.proofs.TokenLaws.{up-to-join, behind-join}
-use Rattle.writer.proofs.DecimalLaws.{digits-numeral, digits-make}
+use Rattle.printing.proofs.DecimalLaws.{digits-numeral, digits-make}
 use Rattle.text.proofs.SeenLaws.{isSeen, seen-solid, name-plain}
 use Rattle.writer.proofs.PrintableLaws.{Printable, Printables, settingBytes, settings-none, settings-more, setting-seen, settings-stop}
 
@@ -38,14 +39,14 @@ setting-some : (x : Variable) (v : ℕ) → 0 < length (settingBytes x v)
 setting-some x v = omega (arith, length-append (x .name ++ ascii "=") (digits v), length-append (x .name) (ascii "="))
 
 -- they are the tokens of the text
-pub settings-tokens : (xs : List Variable) (row : List ℕ) (at : ℕ) → Printables xs row → tokensFrom true at (settings xs row) ≡ settingTokens at xs row
+pub settings-tokens : (xs : List Variable) (row : List ℕ) (at : ℕ) → Printables xs row → tokensFrom true at (settingsText xs row) ≡ settingTokens at xs row
 unfolding settingTokens isSpace
 settings-tokens [] row at g = rw (settings-none, tokens-none)
 settings-tokens (x ∷ xs) [] at g = absurd g
 settings-tokens (x ∷ xs) (v ∷ row) at g =
     rw (settings-more x xs v row)
-    (tokens-space (settingBytes x v ++ settings xs row) at 32 refl
-    ∙ tokens-front (settingBytes x v) (settings xs row) (at + 1) (setting-some x v) (every-weaken isSeen (λ b. not (isSpace b)) seen-solid (settingBytes x v) (setting-seen x v (g .0 .spelt))) (settings-stop xs row)
+    (tokens-space (settingBytes x v ++ settingsText xs row) at 32 refl
+    ∙ tokens-front (settingBytes x v) (settingsText xs row) (at + 1) (setting-some x v) (every-weaken isSeen (λ b. not (isSpace b)) seen-solid (settingBytes x v) (setting-seen x v (g .0 .spelt))) (settings-stop xs row)
     ∙ rw (settings-tokens xs row (after at x v) (g .1)))
 
 -- a token that sets the first variable, or one of the others

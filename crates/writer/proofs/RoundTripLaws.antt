@@ -9,10 +9,10 @@ use lib.Seq.{length-take-le, take-at}
 use borrow.Author.Tests.{leb-true}
 use Rattle.refusal.specs.Result.{Result, accepted, refused}
 use Rattle.refusal.proofs.ResultLaws.{never, Yields, yields-accepted, yields-ensure, yields-none}
-use Rattle.constraint.specs.File.{File, edition}
+use Rattle.constraint.specs.File.{File, editionOf}
 use Rattle.constraint.specs.Read.{readFile}
 use Rattle.constraint.proofs.SoundLaws.{accepted-is-sound}
-use Rattle.judge.specs.Judge.{freshVerdicts, overall}
+use Rattle.judge.specs.Judge.{freshVerdicts, overallOf}
 use Rattle.judge.specs.InUse.{rowInUse, firstUnfit}
 use Rattle.judge.proofs.FitLaws.{row-fits}
 use Rattle.answer.specs.Read.{readAnswer}
@@ -26,15 +26,15 @@ use Rattle.writer.proofs.TextSets.{text-sets}
 -- what holds of values that are written
 pub record Writes (f : File) (values text : List ℕ) : Type 0 where
   pub room : length (f .variables) ≤ length values
-  pub fit : firstUnfit (f .variables) values ≡ none
+  pub fit : firstUnfit (f .variables) (rowInUse f values) ≡ none
   pub text-is : answerText (f .variables) (rowInUse f values) ≡ text
 
 writing-yields : (f : File) (values output : List ℕ) → Yields (Writes f values) (writingFor f values output)
 unfolding writingFor
 writing-yields f values output =
     yields-ensure (leb (length (f .variables)) (length values)) _ λ a.
-    yields-none (firstUnfit (f .variables) values) _ λ b.
-    yields-ensure (isSatisfied (overall (freshVerdicts f (rowInUse f values)))) _ λ _.
+    yields-none (firstUnfit (f .variables) (rowInUse f values)) _ λ b.
+    yields-ensure (isSatisfied (overallOf (freshVerdicts f (rowInUse f values)))) _ λ _.
     yields-ensure (leb (length (answerText (f .variables) (rowInUse f values))) (length output)) _ λ _.
     yields-accepted (record { room = leb-true (length (f .variables)) (length values) a; fit = b; text-is = refl })
 
@@ -43,8 +43,8 @@ read-back : (constraint values text : List ℕ) (f : File) → readFile constrai
 read-back constraint values text f e w =
     let s = accepted-is-sound constraint f e in
     let long = length-take-le (length (f .variables)) values (w .room) in
-    let sets = text-sets (edition f) (f .variables) (rowInUse f values) (s .few-variables) (s .variables) (s .distinct) long (λ i _. row-fits (f .variables) values (w .room) (w .fit) i) in
-    ap (readAnswer (f .variables)) (sym (w .text-is)) ∙ accepts-exactly (edition f) (f .variables) (answerText (f .variables) (rowInUse f values)) (rowInUse f values) (s .variables) (s .distinct) .1 sets
+    let sets = text-sets (editionOf f) (f .variables) (rowInUse f values) (s .few-variables) (s .variables) (s .distinct) long (λ i _. row-fits (f .variables) (rowInUse f values) long (w .fit) i) in
+    ap (readAnswer (f .variables)) (sym (w .text-is)) ∙ accepts-exactly (editionOf f) (f .variables) (answerText (f .variables) (rowInUse f values)) (rowInUse f values) (s .variables) (s .distinct) .1 sets
 
 -- the text stands at the front of the room
 module _ (constraint values output : List ℕ) (f : File) (n : ℕ) (e : readFile constraint ≡ accepted f) where

@@ -9,34 +9,35 @@ use lib.ListN.{length, getD, take, drop, length-append, length-take, length-drop
 use Rattle.edition.specs.Edition.{maxFileBytes}
 use Rattle.refusal.specs.Words.{ascii}
 use Rattle.text.specs.Spelling.{maxDigits}
-use Rattle.constraint.specs.Tables.{tabulate, variableIn, variablesIn}
-use Rattle.constraint.proofs.TableLaws.{length-tabulate, tabulate-suc}
-use Rattle.writer.specs.Text.{digits, setting, settings}
-use Rattle.writer.specs.Places.{Put}
+use Rattle.store.specs.Tables.{tabulate, variableIn, variablesIn}
+use Rattle.store.proofs.TableLaws.{length-tabulate, tabulate-suc}
+use Rattle.printing.specs.Digits.{digits}
+use Rattle.writer.specs.Text.{settingText, settingsText}
+use Rattle.printing.specs.Places.{Put}
 use Rattle.writer.proofs.ListLaws.{zip-snoc, flatten-snoc}
-use Rattle.writer.proofs.PlaceLaws.{put-then}
-use Rattle.writer.proofs.DigitLaws.{digits-count}
+use Rattle.printing.proofs.PlaceLaws.{put-then}
+use Rattle.printing.proofs.DigitLaws.{digits-count}
 
 -- ---- one setting: its length, and its pieces put one behind another
 module _ (name : List ℕ) (width v : ℕ) where
   abbrev text : List ℕ
-  text = setting (record { name = name; width = width }) v
+  text = settingText (record { name = name; width = width }) v
 
   pub setting-length : length text ≡ 2 + length name + length (digits v)
-  unfolding setting
+  unfolding settingText
   setting-length = simp length-append (omega arith)
 
   pub put-setting : {room : List ℕ} {at : ℕ} → at + length text ≤ length room
       → {end₁ end₂ end₃ end₄ : ℕ} {room₁ room₂ room₃ room₄ : List ℕ}
       → Put (ascii " ") room at end₁ room₁ → Put name room₁ end₁ end₂ room₂ → Put (ascii "=") room₂ end₂ end₃ room₃ → Put (digits v) room₃ end₃ end₄ room₄
       → Put text room at end₄ room₄
-  unfolding setting
+  unfolding settingText
   put-setting h p q r s =
       let l = setting-length in
       put-then h (put-then (simp length-append (omega arith)) (put-then (simp length-append (omega arith)) p q) r) s
 
 -- a name from the file makes it no longer than a file and a number
-pub setting-bound : (file : List ℕ) (start len width v : ℕ) → length file ≤ maxFileBytes → length (setting (record { name = take len (drop start file); width = width }) v) ≤ 2 + maxFileBytes + maxDigits
+pub setting-bound : (file : List ℕ) (start len width v : ℕ) → length file ≤ maxFileBytes → length (settingText (record { name = take len (drop start file); width = width }) v) ≤ 2 + maxFileBytes + maxDigits
 setting-bound file start len width v h =
     omega (arith, setting-length (take len (drop start file)) width v, digits-count v, length-take len (drop start file), length-drop start file)
 
@@ -44,24 +45,24 @@ setting-bound file start len width v h =
 module _ (file starts lens widths row : List ℕ) where
   -- those of the first i variables, and that of variable i
   abbrev first : ℕ → List ℕ
-  first i = settings (variablesIn file starts lens widths i) row
+  first i = settingsText (variablesIn file starts lens widths i) row
 
   abbrev next : ℕ → List ℕ
-  next i = setting (variableIn file starts lens widths i) (getD row i 0)
+  next i = settingText (variableIn file starts lens widths i) (getD row i 0)
 
   pub settings-none : first 0 ≡ []
-  unfolding settings variablesIn tabulate zipWith flatten
+  unfolding settingsText variablesIn tabulate zipWith flatten
   settings-none = refl
 
   -- one variable more
   module _ (i : ℕ) (h : i < length row) where
     pub settings-more : first (i + 1) ≡ first i ++ next i
-    unfolding settings variablesIn
+    unfolding settingsText variablesIn
     settings-more =
         let e : length (tabulate (variableIn file starts lens widths) i) ≡ i = length-tabulate (variableIn file starts lens widths) i in
-        ap (λ xs. flatten (zipWith setting xs row)) (tabulate-suc (variableIn file starts lens widths) i)
-        ∙ ap flatten (zip-snoc setting 0 (tabulate (variableIn file starts lens widths) i) (variableIn file starts lens widths i) row (omega arith))
-        ∙ flatten-snoc (zipWith setting (tabulate (variableIn file starts lens widths) i) row) _
+        ap (λ xs. flatten (zipWith settingText xs row)) (tabulate-suc (variableIn file starts lens widths) i)
+        ∙ ap flatten (zip-snoc settingText 0 (tabulate (variableIn file starts lens widths) i) (variableIn file starts lens widths i) row (omega arith))
+        ∙ flatten-snoc (zipWith settingText (tabulate (variableIn file starts lens widths) i) row) _
         ∙ rw e
 
     pub settings-more-length : length (first (i + 1)) ≡ length (first i) + length (next i)

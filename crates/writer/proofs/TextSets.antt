@@ -11,13 +11,13 @@ use Rattle.edition.specs.declared.Edition.{Edition}
 use Rattle.edition.specs.Edition.{maxVariables, maxFileBytes}
 use Rattle.refusal.specs.Lists.{every}
 use Rattle.refusal.proofs.BoolLaws.{and-one}
-use Rattle.text.specs.Bytes.{run, isSpace, isAllowed}
-use Rattle.text.specs.Lines.{lines, tokenOf, tokensFrom, leads}
+use Rattle.text.specs.Bytes.{frontOf, isSpace, isAllowed}
+use Rattle.text.specs.Lines.{textLines, tokenOf, tokensFrom, leads}
 use Rattle.constraint.specs.File.{Variable, nameAt, widthAt}
-use Rattle.constraint.specs.Claims.{Each, SoundVariable, Distinct}
-use Rattle.answer.specs.Words.{satisfiable}
+use Rattle.constraint.specs.Sound.{Each, SoundVariable, Distinct}
+use Rattle.answer.specs.SolutionWords.{satisfiable}
 use Rattle.answer.specs.Claims.{Sets, letterOf, letters, tokensOf, valuesOf}
-use Rattle.writer.specs.Text.{settings, valuesLine, answerText}
+use Rattle.writer.specs.Text.{settingsText, valuesLine, answerText}
 use Rattle.text.proofs.SeenLaws.{seen-allowed}
 use Rattle.writer.proofs.PrintableLaws.{Printables, printables, settings-more, settings-every, settings-short}
 use Rattle.writer.proofs.PrintedLines.{text-lines}
@@ -27,16 +27,16 @@ use Rattle.writer.proofs.PrintedTokens.{settingTokens, settings-tokens,
 text-short : (xs : List Variable) (row : List ℕ) → length xs ≤ maxVariables → Printables xs row → length (answerText xs row) ≤ maxFileBytes
 unfolding answerText valuesLine
 text-short [] row h g = omega arith
-text-short (x ∷ xs) row h g = omega (arith, settings-short (x ∷ xs) row g, length-append (settings (x ∷ xs) row) (10 ∷ []))
+text-short (x ∷ xs) row h g = omega (arith, settings-short (x ∷ xs) row g, length-append (settingsText (x ∷ xs) row) (10 ∷ []))
 
 -- its bytes are allowed
-text-allowed : (xs : List Variable) (row : List ℕ) → Printables xs row → Each (λ l. every isAllowed (l .bytes) ≡ true) (lines (answerText xs row))
+text-allowed : (xs : List Variable) (row : List ℕ) → Printables xs row → Each (λ l. every isAllowed (l .bytes) ≡ true) (textLines (answerText xs row))
 unfolding every isAllowed
 text-allowed [] row g = rw (text-lines [] row g) (refl, tt)
 text-allowed (x ∷ xs) row g = rw (text-lines (x ∷ xs) row g) (refl, (settings-every isAllowed refl seen-allowed (x ∷ xs) row g, tt))
 
 -- the line of the values is led by `v`, and by no other letter
-leads-values : (b : ℕ) (x : Variable) (xs : List Variable) (v : ℕ) (row : List ℕ) → leads b (118 ∷ settings (x ∷ xs) (v ∷ row)) ≡ eqb b 118
+leads-values : (b : ℕ) (x : Variable) (xs : List Variable) (v : ℕ) (row : List ℕ) → leads b (118 ∷ settingsText (x ∷ xs) (v ∷ row)) ≡ eqb b 118
 unfolding leads isSpace
 leads-values b x xs v row = rw (settings-more x xs v row, and-one)
 
@@ -54,7 +54,7 @@ text-letters (x ∷ xs) (v ∷ row) g = rw (text-lines (x ∷ xs) (v ∷ row) g,
 
 -- the token of its `s` line
 text-word : (xs : List Variable) (row : List ℕ) → Printables xs row → map (λ t. t .bytes) (tokensOf (code "s") (answerText xs row)) ≡ satisfiable ∷ []
-unfolding tokensOf flatMap leads isSpace tokensFrom tokenOf run
+unfolding tokensOf flatMap leads isSpace tokensFrom tokenOf frontOf
 text-word [] row g = rw (text-lines [] row g)
 text-word (x ∷ xs) [] g = absurd g
 text-word (x ∷ xs) (v ∷ row) g = rw (text-lines (x ∷ xs) (v ∷ row) g, leads-values 115 x xs v row)
@@ -64,7 +64,7 @@ text-settings : (xs : List Variable) (row : List ℕ) → Printables xs row → 
 unfolding tokensOf flatMap leads settingTokens
 text-settings [] row g = rw (text-lines [] row g)
 text-settings (x ∷ xs) [] g = absurd g
-text-settings (x ∷ xs) (v ∷ row) g = rw (text-lines (x ∷ xs) (v ∷ row) g, leads-values 118 x xs v row) (append-nil (tokensFrom true 15 (settings (x ∷ xs) (v ∷ row))) ∙ settings-tokens (x ∷ xs) (v ∷ row) 15 g)
+text-settings (x ∷ xs) (v ∷ row) g = rw (text-lines (x ∷ xs) (v ∷ row) g, leads-values 118 x xs v row) (append-nil (tokensFrom true 15 (settingsText (x ∷ xs) (v ∷ row))) ∙ settings-tokens (x ∷ xs) (v ∷ row) 15 g)
 
 -- every variable is set once, to its value
 text-once : (xs : List Variable) (row : List ℕ) → Printables xs row → Distinct xs → (i : ℕ) → i < length xs → valuesOf (nameAt xs i) (answerText xs row) ≡ getD row i 0 ∷ []

@@ -16,8 +16,8 @@ use Rattle.refusal.specs.Result.{accepted, refused, refusal}
 use Rattle.refusal.proofs.ResultLaws.{never}
 use Rattle.constraint.specs.File.{File}
 use Rattle.constraint.specs.Read.{readFile}
-use Rattle.constraint.proofs.ReaderLaws.{file-long}
-use Rattle.judge.specs.Judge.{freshVerdicts, overall}
+use Rattle.reader.proofs.ReaderLaws.{file-long}
+use Rattle.judge.specs.Judge.{freshVerdicts, overallOf}
 use Rattle.judge.specs.InUse.{firstUnfit}
 use Rattle.writer.specs.Text.{answerText}
 use Rattle.writer.specs.Write.{isSatisfied, roomFor, writingFor, writing}
@@ -40,15 +40,15 @@ module _ (constraint values output : List ℕ) where
     writing-short h = rw (← e, l, lt-leb n (length values) h)
 
     module _ (h : n ≤ length values) where
-      pub writing-unfit : (i : ℕ) → some i ≡ firstUnfit (f .variables) values → refused (refusal Values heldDoesNotFit i) ≡ writing constraint values output
+      pub writing-unfit : (i : ℕ) → some i ≡ firstUnfit (f .variables) (take n values) → refused (refusal Values heldDoesNotFit i) ≡ writing constraint values output
       unfolding writing writingFor
       writing-unfit i k = rw (← e, l, le-leb n (length values) h, ← k)
 
-      module _ (k : none ≡ firstUnfit (f .variables) values) where
-        pub writing-unsatisfied : false ≡ isSatisfied (overall (freshVerdicts f (take n values))) → refused (refusal Values notSatisfied 0) ≡ writing constraint values output
+      module _ (k : none ≡ firstUnfit (f .variables) (take n values)) where
+        pub writing-unsatisfied : false ≡ isSatisfied (overallOf (freshVerdicts f (take n values))) → refused (refusal Values notSatisfied 0) ≡ writing constraint values output
         unfolding writing writingFor
         writing-unsatisfied s = rw (← e, l, le-leb n (length values) h, ← k, ← s)
 
-        pub writing-text : true ≡ isSatisfied (overall (freshVerdicts f (take n values))) → roomFor (answerText (f .variables) (take n values)) (length output) ≡ writing constraint values output
+        pub writing-text : true ≡ isSatisfied (overallOf (freshVerdicts f (take n values))) → roomFor (answerText (f .variables) (take n values)) (length output) ≡ writing constraint values output
         unfolding writing writingFor
         writing-text s = rw (← e, l, le-leb n (length values) h, ← k, ← s)

@@ -1,19 +1,20 @@
 // The text of an answer, put into a room, and its length.
-use super::printing::digit_count;
-use super::printing::put_byte;
-use super::printing::put_bytes;
-use super::printing::put_digits;
 use answer::words::satisfiable;
 use edition::Edition;
+use printing::digit_count;
+use printing::put_byte;
+use printing::put_bytes;
+use printing::put_digits;
 use text::Span;
 ghost use mathlib.Core.Path.{_≡_};
 ghost use mathlib.Core.List.{List};
 ghost use Prim.Native.Nat.{ℕ, _+_, _≤_};
 ghost use lib.ListN.{length, take, drop};
 ghost use Rattle.edition.specs.Edition.{maxVariables, maxFileBytes};
-ghost use Rattle.constraint.specs.Tables.{variablesIn};
-ghost use Rattle.writer.specs.Text.{setting, settings, valuesLine, answerText};
-ghost use Rattle.writer.specs.Places.{Put, Part, maxSettingsLength};
+ghost use Rattle.store.specs.Tables.{variablesIn};
+ghost use Rattle.printing.specs.Places.{Put};
+ghost use Rattle.writer.specs.Text.{settingText, settingsText, valuesLine, answerText};
+ghost use Rattle.writer.specs.Places.{Part, maxSettingsLength};
 
 // As many of the `len` bytes at `start` as the file has.
 fn part(file: &[u8], start: usize, len: usize) -> Span
@@ -36,8 +37,8 @@ fn part(file: &[u8], start: usize, len: usize) -> Span
 
 // ` name=value`, the name being as many of the `len` bytes at `start` as the file has.
 fn put_setting(file: &[u8], start: usize, len: usize, v: u64, room: &mut [u8], at: usize) -> usize
-    requires { ⌜ ((width : ℕ) → at + length (setting (record { name = take len (drop start (now file)); width = width }) v) ≤ length (now room)) ⌝ }
-    ensures { λ r. ⌜ ((width : ℕ) → Put (setting (record { name = take len (drop start (now (file .entry))); width = width }) v) (now (room .entry)) at r (now (room .exit))) ⌝ }
+    requires { ⌜ ((width : ℕ) → at + length (settingText (record { name = take len (drop start (now file)); width = width }) v) ≤ length (now room)) ⌝ }
+    ensures { λ r. ⌜ ((width : ℕ) → Put (settingText (record { name = take len (drop start (now (file .entry))); width = width }) v) (now (room .entry)) at r (now (room .exit))) ⌝ }
 {
     let name = part(file, start, len);
     let first = name.start;
@@ -50,7 +51,7 @@ fn put_setting(file: &[u8], start: usize, len: usize, v: u64, room: &mut [u8], a
 
 fn setting_length(file: &[u8], start: usize, len: usize, v: u64) -> usize
     requires { ⌜ length (now file) ≤ maxFileBytes ⌝ }
-    ensures { λ r. ⌜ ((width : ℕ) → r ≡ length (setting (record { name = take len (drop start (now (file .entry))); width = width }) v)) ⌝ }
+    ensures { λ r. ⌜ ((width : ℕ) → r ≡ length (settingText (record { name = take len (drop start (now (file .entry))); width = width }) v)) ⌝ }
 {
     let name = part(file, start, len);
     let first = name.start;
@@ -68,8 +69,8 @@ fn put_settings<'a>(
     room: &mut [u8],
     at: usize,
 ) -> usize
-    requires { ⌜ (n ≤ maxVariables) × (length (now row) ≡ n) × ((widths : List ℕ) → at + length (settings (variablesIn (now file) (now starts) (now lens) widths n) (now row)) ≤ length (now room)) ⌝ }
-    ensures { λ r. ⌜ ((widths : List ℕ) → Put (settings (variablesIn (now (file .entry)) (now (starts .entry)) (now (lens .entry)) widths n) (now (row .entry))) (now (room .entry)) at r (now (room .exit))) ⌝ }
+    requires { ⌜ (n ≤ maxVariables) × (length (now row) ≡ n) × ((widths : List ℕ) → at + length (settingsText (variablesIn (now file) (now starts) (now lens) widths n) (now row)) ≤ length (now room)) ⌝ }
+    ensures { λ r. ⌜ ((widths : List ℕ) → Put (settingsText (variablesIn (now (file .entry)) (now (starts .entry)) (now (lens .entry)) widths n) (now (row .entry))) (now (room .entry)) at r (now (room .exit))) ⌝ }
 {
     let mut i = 0;
     let mut end = at;
@@ -90,7 +91,7 @@ fn settings_length<'a>(
     row: &[u64],
 ) -> usize
     requires { ⌜ (length (now file) ≤ maxFileBytes) × (n ≤ maxVariables) × (length (now row) ≡ n) ⌝ }
-    ensures { λ r. ⌜ ((widths : List ℕ) → r ≡ length (settings (variablesIn (now (file .entry)) (now (starts .entry)) (now (lens .entry)) widths n) (now (row .entry)))) × (r ≤ maxSettingsLength) ⌝ }
+    ensures { λ r. ⌜ ((widths : List ℕ) → r ≡ length (settingsText (variablesIn (now (file .entry)) (now (starts .entry)) (now (lens .entry)) widths n) (now (row .entry)))) × (r ≤ maxSettingsLength) ⌝ }
 {
     let mut i = 0;
     let mut length = 0;

@@ -1,34 +1,34 @@
 // Answer files: writing the values of a lent table, where they satisfy the constraint file.
 use answers::answer_length;
 use answers::put_answer;
-use constraint::Found;
-use constraint::Step;
-use constraint::reader::read;
-use constraint::tables::TABLE_WORDS;
 use edition::Edition;
 use judge::Overall;
 use judge::in_use::first_unfit;
 use judge::lines::judge_all;
 use judge::verdicts::overall;
+use reader::reading::read;
 use refusal::Refusal;
 use refusal::Subject;
+use store::Found;
+use store::Step;
+use store::lines::TABLE_WORDS;
 ghost use mathlib.Core.Path.{_≡_};
 ghost use mathlib.Core.List.{List};
 ghost use Prim.Native.Nat.{ℕ, _≤_};
 ghost use lib.ListN.{length};
 ghost use Rattle.edition.specs.Edition.{maxVariables, maxLines, maxFileBytes};
 ghost use Rattle.refusal.specs.Result.{refusal as refusalOf};
-ghost use Rattle.constraint.specs.Tables.{tableWords, linesIn, variablesIn};
-ghost use Rattle.constraint.specs.Claims.{Each};
-ghost use Rattle.judge.specs.Judge.{verdictsOf, overall as overallOf};
-ghost use Rattle.judge.specs.Unnamed.{unnamed, Fitting};
+ghost use Rattle.store.specs.Tables.{tableWords, linesIn, variablesIn};
+ghost use Rattle.constraint.specs.Sound.{Each};
+ghost use Rattle.judge.specs.Judge.{verdictsOf, overallOf};
+ghost use Rattle.store.specs.Tables.{unnamed};
+ghost use Rattle.judge.specs.Fitting.{Fitting};
 ghost use Rattle.writer.specs.declared.WriteReply.the-variants.{Refused as TheRefused};
 ghost use Rattle.writer.specs.Write.{isSatisfied, roomFor, written, writeOutcome};
 ghost use Rattle.writer.specs.Text.{answerText};
 
 mod answers;
 pub mod claims;
-mod printing;
 
 pub enum WriteReply {
     Written(usize),

@@ -8,8 +8,9 @@ use Rattle.edition.specs.Edition.{maxVariables}
 use Rattle.refusal.specs.Result.{accepted}
 use Rattle.constraint.specs.Read.{readFile}
 use Rattle.constraint.specs.File.{File}
-use Rattle.constraint.specs.Answers.{held, fileHeld}
-use Rattle.constraint.proofs.LookupLaws.{variables-length}
+use Rattle.store.specs.Tables.{storeOf}
+use Rattle.store.specs.Progress.{storedFile}
+use Rattle.store.proofs.LookupLaws.{variables-length}
 use Rattle.answer.specs.Read.{readAnswer}
 use Rattle.answer.specs.Call.{stored}
 use Rattle.answer.proofs.CallLaws.{reading-constraint, reading-answer, reading-short, reading-row, row-stored}
@@ -20,7 +21,7 @@ use Rattle.answer.proofs.read.Tie as tie
 abbrev file : tie.After-p → File
 file c =
     let r = c .before .before in
-    fileHeld (r .before .before .before .before .before .before .before .before .args .constraint .now) (held (r .read .last .1 .0) (r .read .last .1 .1 .0) (r .read .last .1 .1 .1 .0) (r .read .last .1 .1 .1 .1 .0)) (c .p .given .0 .0)
+    storedFile (r .before .before .before .before .before .before .before .before .args .constraint .now) (storeOf (r .read .last .1 .0) (r .read .last .1 .1 .0) (r .read .last .1 .1 .1 .0) (r .read .last .1 .1 .1 .1 .0)) (c .p .given .0 .0)
 
 file-read : (c : tie.After-p) → accepted (file c) ≡ readFile (c .before .before .before .before .before .before .before .before .before .before .args .constraint .now)
 file-read c = rw (c .p .given .1) at (c .before .before .read .ensures .0)

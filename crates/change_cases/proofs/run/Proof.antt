@@ -3,18 +3,6 @@ use borrow.Author.Needs.{needs}
 use Rattle.change_cases.proofs.run.Statement.{statement}
 use Rattle.change_cases.proofs.run.Tie as tie
 
-returns : tie.Need-returns
-returns c = search needs
-
-returns-2 : tie.Need-returns-2
-returns-2 c = search needs
-
-returns-3 : tie.Need-returns-3
-returns-3 c = search needs
-
-returns-4 : tie.Need-returns-4
-returns-4 c = search needs
-
 array-borrow-prefix-constraint : tie.Need-array-borrow-prefix-constraint
 array-borrow-prefix-constraint c = search needs
 
@@ -42,17 +30,13 @@ slice-aggregate-replay-run-4 c = front _ _ (search needs)
 replay-run-requires : tie.Need-replay-run-requires
 replay-run-requires c κs = search needs
 
-returns-5 : tie.Need-returns-5
-returns-5 c = search needs
+returns : tie.Need-returns
+returns c = search needs
 
 pub run-spec : {M : Type 1} → statement M
 run-spec =
     tie.close
     (tie.spec
-    returns
-    returns-2
-    returns-3
-    returns-4
     array-borrow-prefix-constraint
     slice-aggregate-replay-run
     array-borrow-prefix-answer
@@ -62,4 +46,4 @@ run-spec =
     array-borrow-prefix-verdicts
     slice-aggregate-replay-run-4
     replay-run-requires
-    returns-5)
+    returns)

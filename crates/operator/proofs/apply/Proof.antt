@@ -1,9 +1,29 @@
-use Rattle.operator.specs.Meaning.{meaning}
-use Rattle.operator.specs.Apply.{applying}
-use Rattle.operator.proofs.RuleLaws.{passed, failed, given}
+-- `apply` meets its contract: the first test that fails refuses, and operands that pass all are evaluated.
+use mathlib.Core.Path.{_≡_, sym, ap, _∙_}
+use mathlib.Core.Bool.{true}
+use Rattle.arithmetic.specs.Rules.{widthsHold, typed, operandsFit}
+use Rattle.arithmetic.proofs.RuleLaws.{passed, failed, given}
+use Rattle.operator.specs.Apply.{applyOutcome}
+use Rattle.operator.proofs.ApplyLaws.{passedOn, no-width, rule-broken, too-large, taken}
 use borrow.Author.Needs.{needs}
 use Rattle.operator.proofs.apply.Statement.{statement}
 use Rattle.operator.proofs.apply.Tie as tie
+
+-- the tests that were passed
+has-widths : (x : tie.Else1) → let s = x .before .before .args in widthsHold (s .op) (s .k) (s .a) (s .b) (s .c) ≡ true
+has-widths x = passed (x .before .widths-hold .ensures) (x .if1 .left)
+
+is-typed : (x : tie.Else2) → let s = x .before .before .before .before .args in typed (s .op) (s .k) (s .a) (s .b) (s .c) ≡ true
+is-typed x = passed (x .before .typed .ensures) (x .if2 .left)
+
+has-values : (x : tie.Else3) → let s = x .before .before .before .before .before .before .args in operandsFit (s .op) (s .a) (s .b) (s .c) ≡ true
+has-values x = passed (x .before .operands-fit .ensures) (x .if3 .left)
+
+-- what `evaluate` answers, passed on
+passed-on : (x : tie.After-evaluate) → let s = x .before .before .before .before .before .before .before .args in passedOn (x .evaluate .result) ≡ applyOutcome (s .op) (s .k) (s .a) (s .b) (s .c)
+passed-on x =
+    let s = x .before .before .before .before .before .before .before .args in
+    ap passedOn (x .evaluate .ensures) ∙ taken (s .op) (s .k) (s .a) (s .b) (s .c) (has-widths (x .before .before .before .before .before)) (is-typed (x .before .before .before)) (has-values (x .before))
 
 widths-hold-requires : tie.Need-widths-hold-requires
 widths-hold-requires c κs = search needs
@@ -12,8 +32,9 @@ refused-requires : tie.Need-refused-requires
 refused-requires c κs = search needs
 
 returns : tie.Need-returns
-unfolding applying
-returns c = rw (failed (c .before .before .widths-hold .ensures) (c .before .if1 .taken)) (c .refused .ensures)
+returns c =
+    let s = c .before .before .before .args in
+    c .refused .ensures ∙ no-width (s .op) (s .k) (s .a) (s .b) (s .c) (failed (c .before .before .widths-hold .ensures) (c .before .if1 .taken))
 
 typed-requires : tie.Need-typed-requires
 typed-requires c κs = search needs
@@ -22,30 +43,37 @@ refused-requires-2 : tie.Need-refused-requires-2
 refused-requires-2 c κs = search needs
 
 returns-2 : tie.Need-returns-2
-unfolding applying
 returns-2 c =
-    rw (passed (c .before .before .before .before .widths-hold .ensures) (c .before .before .before .if1 .left), failed (c .before .before .typed .ensures) (c .before .if2 .taken)) (c .refused2 .ensures)
+    let s = c .before .before .before .before .before .args in
+    c .refused2 .ensures ∙ rule-broken (s .op) (s .k) (s .a) (s .b) (s .c) (has-widths (c .before .before .before)) (failed (c .before .before .typed .ensures) (c .before .if2 .taken))
 
-values-fit-requires : tie.Need-values-fit-requires
-values-fit-requires c κs = search needs
+operands-fit-requires : tie.Need-operands-fit-requires
+operands-fit-requires c κs = search needs
 
 refused-requires-3 : tie.Need-refused-requires-3
 refused-requires-3 c κs = search needs
 
 returns-3 : tie.Need-returns-3
-unfolding applying
 returns-3 c =
-    rw (passed (c .before .before .before .before .before .before .widths-hold .ensures) (c .before .before .before .before .before .if1 .left), passed (c .before .before .before .before .typed .ensures) (c .before .before .before .if2 .left), failed (c .before .before .values-fit .ensures) (c .before .if3 .taken)) (c .refused3 .ensures)
+    let s = c .before .before .before .before .before .before .before .args in
+    c .refused3 .ensures ∙ too-large (s .op) (s .k) (s .a) (s .b) (s .c) (has-widths (c .before .before .before .before .before)) (is-typed (c .before .before .before)) (failed (c .before .before .operands-fit .ensures) (c .before .if3 .taken))
 
 evaluate-requires : tie.Need-evaluate-requires
 evaluate-requires c κs =
     let s = c .before .before .before .before .before .before .args in
-    given (s .op) (s .k) (s .a) (s .b) (s .c) (passed (c .before .before .before .before .before .widths-hold .ensures) (c .before .before .before .before .if1 .left)) (passed (c .before .before .before .typed .ensures) (c .before .before .if2 .left)) (passed (c .before .values-fit .ensures) (c .if3 .left))
+    given (s .op) (s .k) (s .a) (s .b) (s .c) (has-widths (c .before .before .before .before)) (is-typed (c .before .before)) (has-values c)
+
+enum-known-result : tie.Need-enum-known-result
+enum-known-result c = search needs
+
+enum-told : tie.Need-enum-told
+enum-told c = search needs
 
 returns-4 : tie.Need-returns-4
-unfolding applying meaning
-returns-4 c =
-    rw (passed (c .before .before .before .before .before .before .widths-hold .ensures) (c .before .before .before .before .before .if1 .left), passed (c .before .before .before .before .typed .ensures) (c .before .before .before .if2 .left), passed (c .before .before .values-fit .ensures) (c .before .if3 .left)) (c .evaluate .ensures)
+returns-4 c = sym (ap passedOn (c .before .result .given .1)) ∙ passed-on (c .before .before .before)
+
+returns-5 : tie.Need-returns-5
+returns-5 c = sym (ap passedOn (c .enum-told .given .1)) ∙ passed-on (c .before .before)
 
 pub apply-spec : {M : Type 1} → statement M
 apply-spec =
@@ -57,8 +85,11 @@ apply-spec =
     typed-requires
     refused-requires-2
     returns-2
-    values-fit-requires
+    operands-fit-requires
     refused-requires-3
     returns-3
     evaluate-requires
-    returns-4)
+    enum-known-result
+    enum-told
+    returns-4
+    returns-5)

@@ -5,14 +5,17 @@ use Rattle.spear.proofs.code_of.Tie as tie
 enum-known-report : tie.Need-enum-known-report
 enum-known-report c = search needs
 
-code-of-overall-requires : tie.Need-code-of-overall-requires
-code-of-overall-requires c κs = search needs
+overall-number-requires : tie.Need-overall-number-requires
+overall-number-requires c κs = search needs
+
+cast-result : tie.Need-cast-result
+cast-result c = search needs
 
 enum-known-report-2 : tie.Need-enum-known-report-2
 enum-known-report-2 c = search needs
 
-cast-result : tie.Need-cast-result
-cast-result c = search needs
+cast-result-2 : tie.Need-cast-result-2
+cast-result-2 c = search needs
 
 add-result : tie.Need-add-result
 add-result c = search needs
@@ -28,9 +31,10 @@ code-of-spec =
     tie.close
     (tie.spec
     enum-known-report
-    code-of-overall-requires
-    enum-known-report-2
+    overall-number-requires
     cast-result
+    enum-known-report-2
+    cast-result-2
     add-result
     returns
     returns-2)

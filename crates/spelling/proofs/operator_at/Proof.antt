@@ -1,4 +1,4 @@
--- `operator_at` meets its contract: the first of the four groups that has the spelling.
+-- `operator_at` meets its contract: one list behind the other.
 use borrow.Author.Needs.{needs}
 use Rattle.spelling.proofs.SpellingLaws.{operator-is}
 use Rattle.spelling.proofs.operator_at.Statement.{statement}
@@ -16,23 +16,12 @@ arithmetic-requires c κs = search needs
 shifts-and-casts-requires : tie.Need-shifts-and-casts-requires
 shifts-and-casts-requires c κs = search needs
 
-either-requires : tie.Need-either-requires
-either-requires c κs = search needs
-
-either-requires-2 : tie.Need-either-requires-2
-either-requires-2 c κs = search needs
-
-either-requires-3 : tie.Need-either-requires-3
-either-requires-3 c κs = search needs
-
 returns : tie.Need-returns
 returns c = λ e.
-    let d = c .before .before .before in
-    let g = d .before in
+    let g = c .before in
     let p = g .before in
     let b = p .before in
-    rw (c .either3 .ensures, c .before .either2 .ensures, c .before .before .either .ensures)
-    (operator-is _ e (b .bitwise .result) (p .predicates .result) (g .arithmetic .result) (d .shifts-and-casts .result) (b .bitwise .ensures) (p .predicates .ensures) (g .arithmetic .ensures) (d .shifts-and-casts .ensures))
+    operator-is _ e (b .bitwise .result) (p .predicates .result) (g .arithmetic .result) (c .shifts-and-casts .result) (b .bitwise .ensures) (p .predicates .ensures) (g .arithmetic .ensures) (c .shifts-and-casts .ensures)
 
 pub operator-at-spec : {M : Type 1} → statement M
 operator-at-spec =
@@ -42,7 +31,4 @@ operator-at-spec =
     predicates-requires
     arithmetic-requires
     shifts-and-casts-requires
-    either-requires
-    either-requires-2
-    either-requires-3
     returns)

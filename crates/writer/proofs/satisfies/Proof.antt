@@ -4,10 +4,10 @@ use Prim.Native.Nat.{ℕ}
 use lib.ListN.{length, take}
 use lib.Seq.{take-at}
 use borrow.Author.Needs.{needs}
-use Rattle.constraint.specs.Tables.{linesIn}
-use Rattle.constraint.proofs.TableLaws.{lines-length}
-use Rattle.judge.specs.Judge.{verdictsOf, overall}
-use Rattle.judge.specs.Unnamed.{unnamed}
+use Rattle.store.specs.Tables.{linesIn}
+use Rattle.store.proofs.TableLaws.{lines-length}
+use Rattle.judge.specs.Judge.{verdictsOf, overallOf}
+use Rattle.store.specs.Tables.{unnamed}
 use Rattle.judge.proofs.VerdictLaws.{verdicts-length}
 use Rattle.writer.specs.Write.{isSatisfied}
 use Rattle.writer.proofs.satisfies.Statement.{statement}
@@ -49,13 +49,13 @@ enum-told-3 : tie.Need-enum-told-3
 enum-told-3 c = search needs
 
 returns : tie.Need-returns
-returns c = ap isSatisfied (sym (c .enum-told .given .1) ∙ c .before .before .overall .ensures ∙ ap overall (front (c .before .before .before .before .before)))
+returns c = ap isSatisfied (sym (c .enum-told .given .1) ∙ c .before .before .overall .ensures ∙ ap overallOf (front (c .before .before .before .before .before)))
 
 returns-2 : tie.Need-returns-2
-returns-2 c = ap isSatisfied (sym (c .enum-told2 .given .1) ∙ c .before .before .overall .ensures ∙ ap overall (front (c .before .before .before .before .before)))
+returns-2 c = ap isSatisfied (sym (c .enum-told2 .given .1) ∙ c .before .before .overall .ensures ∙ ap overallOf (front (c .before .before .before .before .before)))
 
 returns-3 : tie.Need-returns-3
-returns-3 c = ap isSatisfied (sym (c .enum-told3 .given .1) ∙ c .before .before .overall .ensures ∙ ap overall (front (c .before .before .before .before .before)))
+returns-3 c = ap isSatisfied (sym (c .enum-told3 .given .1) ∙ c .before .before .overall .ensures ∙ ap overallOf (front (c .before .before .before .before .before)))
 
 pub satisfies-spec : {M : Type 1} → statement M
 satisfies-spec =

@@ -2,16 +2,16 @@ use mathlib.Core.Path.{_≡_, sym, ap, _∙_}
 use mathlib.Core.List.{List}
 use mathlib.Core.Option.{none}
 use Prim.Native.Nat.{ℕ, _≤_}
-use native.Mathlib.Omega.{arith}
 use lib.ListN.{length, take}
 use lib.Seq.{length-take-le}
 use borrow.Author.Needs.{needs}
 use Rattle.refusal.specs.Result.{accepted}
 use Rattle.constraint.specs.File.{File}
 use Rattle.constraint.specs.Read.{readFile}
-use Rattle.constraint.specs.Answers.{Held, held, fileHeld, InTables}
-use Rattle.constraint.proofs.LookupLaws.{variables-length}
-use Rattle.judge.specs.Judge.{freshVerdicts, overall}
+use Rattle.store.specs.Tables.{Store, storeOf}
+use Rattle.store.specs.Progress.{storedFile, InTables}
+use Rattle.store.proofs.LookupLaws.{variables-length}
+use Rattle.judge.specs.Judge.{freshVerdicts, overallOf}
 use Rattle.judge.specs.InUse.{firstUnfit}
 use Rattle.judge.specs.Claims.{RowFits}
 use Rattle.judge.proofs.UnnamedLaws.{unfit-unnamed}
@@ -26,13 +26,13 @@ use Rattle.writer.proofs.write.Tie as tie
 abbrev bytes : tie.After-p → List ℕ
 bytes c = c .before .before .before .before .before .before .before .before .before .before .args .constraint .now
 
-abbrev tables : tie.After-p → Held
+abbrev tables : tie.After-p → Store
 tables c =
     let r = c .before .before .read in
-    held (r .last .1 .0) (r .last .1 .1 .0) (r .last .1 .1 .1 .0) (r .last .1 .1 .1 .1 .0)
+    storeOf (r .last .1 .0) (r .last .1 .1 .0) (r .last .1 .1 .1 .0) (r .last .1 .1 .1 .1 .0)
 
 abbrev file : tie.After-p → File
-file c = fileHeld (bytes c) (tables c) (c .p .given .0 .0)
+file c = storedFile (bytes c) (tables c) (c .p .given .0 .0)
 
 abbrev count : tie.After-p → ℕ
 count c = c .p .given .0 .0 .variables
@@ -56,10 +56,10 @@ reached c = c .before .before .before .before .before .before
 abbrev row : tie.After-enum-told → List ℕ
 row c = take (count (reached c)) (values c)
 
-unfit : (c : tie.After-enum-told) → none ≡ firstUnfit (file (reached c) .variables) (values c)
+unfit : (c : tie.After-enum-told) → none ≡ firstUnfit (file (reached c) .variables) (row c)
 unfit c =
     let p = reached c in
-    (rw (c .enum-told .given .1) at (c .before .before .first-unfit .ensures)) ∙ sym (unfit-unnamed (bytes p) (tables p .starts) (tables p .lens) (tables p .widths) (count p) (values c))
+    (rw (c .enum-told .given .1) at (c .before .before .first-unfit .ensures)) ∙ sym (unfit-unnamed (bytes p) (tables p .starts) (tables p .lens) (tables p .widths) (count p) (row c))
 
 room : (c : tie.After-enum-told) → count (reached c) ≤ length (values c)
 room c = c .before .before .before .before .if1 .left
@@ -67,14 +67,14 @@ room c = c .before .before .before .before .if1 .left
 fits : (c : tie.After-enum-told) → RowFits (file (reached c) .variables) (row c)
 fits c =
     let p = reached c in
-    rw (counted p) at (row-fits (file p .variables) (values c) (omega (arith, counted p, room c)) (sym (unfit c)))
+    row-fits (file p .variables) (row c) (length-take-le (count p) (values c) (room c) ∙ sym (counted p)) (sym (unfit c))
 
 -- ---- whether they satisfy the file
-satisfied : (c : tie.After-satisfies) → c .satisfies .result ≡ isSatisfied (overall (freshVerdicts (file (reached (c .before .before .before .before))) (row (c .before .before .before .before))))
+satisfied : (c : tie.After-satisfies) → c .satisfies .result ≡ isSatisfied (overallOf (freshVerdicts (file (reached (c .before .before .before .before))) (row (c .before .before .before .before))))
 satisfied c =
     let e = c .before .before .before .before in
     let p = reached e in
-    c .satisfies .ensures ∙ ap (λ (vs : List ℕ). isSatisfied (overall vs)) (fresh-held (bytes p) (tables p) (p .p .given .0 .0) (row e))
+    c .satisfies .ensures ∙ ap (λ (vs : List ℕ). isSatisfied (overallOf vs)) (fresh-held (bytes p) (tables p) (p .p .given .0 .0) (row e))
 
 read-requires : tie.Need-read-requires
 read-requires c κs = search needs
@@ -131,7 +131,7 @@ returns-3 : tie.Need-returns-3
 returns-3 c = let a = c .before .before .before .before .before .before .before .before .before .before .before .before .before .before .before .before .before .before .args in
     let p = c .before .before .before .before .before .before .before .before in
     let i = c .before .before .i .given in
-    let e = (rw (i .1) at (c .before .before .before .before .first-unfit .ensures)) ∙ sym (unfit-unnamed (bytes p) (tables p .starts) (tables p .lens) (tables p .widths) (count p) (a .values .now)) in
+    let e = (rw (i .1) at (c .before .before .before .before .first-unfit .ensures)) ∙ sym (unfit-unnamed (bytes p) (tables p .starts) (tables p .lens) (tables p .widths) (count p) (take (count p) (a .values .now))) in
     rw (c .refused2 .ensures) (ap (written (a .output .now)) (writing-unfit (a .constraint .now) (a .values .now) (a .output .now) (file p) (file-read p) (count p) (counted p) (c .before .before .before .before .before .before .if1 .left) (i .0 .0) e))
 
 same-length : tie.Need-same-length

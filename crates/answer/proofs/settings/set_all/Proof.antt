@@ -9,8 +9,8 @@ use borrow.Author.Needs.{needs}
 use Rattle.refusal.specs.Result.{accepted}
 use Rattle.text.specs.Lines.{tokensFrom}
 use Rattle.text.proofs.TokenLaws.{tokens-end}
-use Rattle.constraint.specs.Tables.{variablesIn}
-use Rattle.constraint.specs.Answers.{tokenAt}
+use Rattle.store.specs.Tables.{variablesIn}
+use Rattle.text.specs.Scan.{tokenAt}
 use Rattle.answer.specs.Read.{settingOf}
 use Rattle.answer.proofs.ValueLaws.{Storing, storing-done, storing-fault, storing-twice, storing-more}
 use Rattle.answer.proofs.settings.set_all.Statement.{statement}

@@ -11,10 +11,10 @@ use Rattle.text.specs.declared.Number.{Number}
 use Rattle.text.specs.declared.Number.the-variants.{Value, TooBig, Misspelt}
 use Rattle.text.proofs.TokenLaws.{find-bounds}
 use Rattle.constraint.specs.File.{Variable}
-use Rattle.constraint.specs.Tables.{variablesIn}
-use Rattle.constraint.specs.Answers.{tokenAt}
+use Rattle.store.specs.Tables.{variablesIn}
+use Rattle.text.specs.Scan.{tokenAt}
 use Rattle.answer.specs.Read.{settingOf}
-use Rattle.answer.specs.Answers.{settingResult, settingNamed}
+use Rattle.answer.specs.Internal.{settingResult, settingNamed}
 use Rattle.answer.proofs.SettingLaws.{settingBy, setting-by}
 use Rattle.answer.proofs.settings.setting.Statement.{statement}
 use Rattle.answer.proofs.settings.setting.Tie as tie

@@ -3,12 +3,12 @@ use mathlib.Core.Path.{_≡_, sym, ap, _∙_}
 use mathlib.Core.List.{List}
 use lib.Dec.{ltb}
 use borrow.Author.Needs.{needs}
-use Rattle.operator.specs.Rules.{fits}
+use Rattle.arithmetic.proofs.RuleLaws.{fits-test}
 use Rattle.constraint.specs.File.{Variable, widthAt}
-use Rattle.constraint.specs.Tables.{variablesIn}
-use Rattle.constraint.specs.Answers.{place}
-use Rattle.constraint.proofs.LookupLaws.{variables-length}
-use Rattle.constraint.proofs.TypingLaws.{width-is}
+use Rattle.store.specs.Tables.{variablesIn}
+use Rattle.store.specs.Tables.{place}
+use Rattle.store.proofs.LookupLaws.{variables-length}
+use Rattle.store.proofs.WidthLaws.{width-unnamed}
 use Rattle.answer.proofs.SettingLaws.{found-below, named-long, named-unknown, named-set, named-unfit}
 use Rattle.answer.proofs.settings.setting_of.Statement.{statement}
 use Rattle.answer.proofs.settings.setting_of.Tie as tie
@@ -18,10 +18,9 @@ variables s = variablesIn (s .args .file .now) (s .args .starts .now) (s .args .
 
 -- whether the value fits the variable that was found
 fit : (c : tie.After-fits2) → let s = c .before .before .before .before .before .before .before .before .before in c .fits2 .result ≡ ltb (s .args .v) (2 ^ widthAt (variables s) (c .before .before .before .i .given .0 .0))
-unfolding fits
 fit c =
     let a = c .before .before .before .before .before .before .before .before .before .args in
-    c .fits2 .ensures ∙ rw (c .before .width-of .ensures, width-is (a .file .now) (a .starts .now) (a .lens .now) (a .widths .now) (a .n) (c .before .before .before .i .given .0 .0))
+    c .fits2 .ensures ∙ fits-test _ _ ∙ rw (c .before .width-of .ensures, width-unnamed (a .file .now) (a .starts .now) (a .lens .now) (a .widths .now) (a .n) (c .before .before .before .i .given .0 .0))
 
 sub-if1 : tie.Need-sub-if1
 sub-if1 c = search needs

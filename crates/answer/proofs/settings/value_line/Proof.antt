@@ -2,8 +2,8 @@ use mathlib.Core.List.{List}
 use borrow.Author.Tests.{not-true, not-false}
 use borrow.Author.Needs.{needs}
 use Rattle.constraint.specs.File.{Variable}
-use Rattle.constraint.specs.Tables.{variablesIn}
-use Rattle.answer.specs.Answers.{entriesIn}
+use Rattle.store.specs.Tables.{variablesIn}
+use Rattle.answer.specs.Internal.{entriesIn}
 use Rattle.answer.proofs.ValueLaws.{values-misplaced, values-refused, values-read}
 use Rattle.answer.proofs.settings.value_line.Statement.{statement}
 use Rattle.answer.proofs.settings.value_line.Tie as tie

@@ -8,7 +8,7 @@ use lib.ListN.{length, take, drop}
 use lib.Seq.{length-take-le}
 use borrow.Author.Needs.{needs}
 use Rattle.text.specs.Lines.{tokensFrom}
-use Rattle.constraint.specs.Answers.{tokenAt}
+use Rattle.text.specs.Scan.{tokenAt}
 use Rattle.answer.proofs.SolutionLaws.{solution-misplaced, solution-missing, solution-satisfiable, solution-otherwise, solution-none}
 use Rattle.answer.proofs.solutions.solution_line.Statement.{statement}
 use Rattle.answer.proofs.solutions.solution_line.Tie as tie

@@ -1,15 +1,16 @@
 -- `first_unfit` meets its contract. The loop's invariant: the first value that does not fit is the first of those that are left.
 use Prim.Native.Nat.{_-_, _≤_}
 use mathlib.Core.Path.{_≡_, sym, _∙_}
+use lib.ListN.{take}
 use borrow.Author.Needs.{needs}
 use Rattle.judge.specs.InUse.{firstUnfit}
-use Rattle.judge.specs.Unnamed.{unnamed}
+use Rattle.store.specs.Tables.{unnamed}
 use Rattle.judge.proofs.UnfitLaws.{unfitFrom, unfit-start, unfit-later, unfit-here, unfit-nowhere}
 use Rattle.judge.proofs.in_use.first_unfit.Statement.{statement}
 use Rattle.judge.proofs.in_use.first_unfit.Tie as tie
 
 abbrev Inv-loop : tie.InvT-loop
-Inv-loop widths n values i₀ i = (i ≤ n) × (unfitFrom widths n values i ≡ firstUnfit (unnamed widths n) values)
+Inv-loop widths n values i₀ i = (i ≤ n) × (unfitFrom widths n values i ≡ firstUnfit (unnamed widths n) (take n values))
 
 abbrev μ-loop : tie.MeasureT-loop
 μ-loop widths n values i₀ i = n - i

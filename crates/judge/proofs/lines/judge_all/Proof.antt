@@ -5,9 +5,10 @@ use mathlib.Core.List.{_++_}
 use native.Mathlib.Omega.{arith}
 use lib.ListN.{length, drop, length-set}
 use borrow.Author.Needs.{needs}
-use Rattle.constraint.specs.Tables.{tabulate, linesIn}
+use Rattle.store.specs.Tables.{tabulate, linesIn}
 use Rattle.judge.specs.Judge.{verdictsOf}
-use Rattle.judge.specs.Unnamed.{unnamed, Fitting}
+use Rattle.store.specs.Tables.{unnamed}
+use Rattle.judge.specs.Fitting.{Fitting}
 use Rattle.judge.proofs.VerdictLaws.{each-line, verdict-put}
 use Rattle.judge.proofs.lines.judge_all.Statement.{statement}
 use Rattle.judge.proofs.lines.judge_all.Tie as tie

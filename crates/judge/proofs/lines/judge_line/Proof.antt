@@ -1,10 +1,10 @@
 -- `judge_line` meets its contract: what the operator gives settles it.
 use mathlib.Core.Path.{_≡_, sym, ap, _∙_}
 use borrow.Author.Needs.{needs}
-use Rattle.constraint.specs.Tables.{lineIn}
-use Rattle.operator.proofs.RuleLaws.{given}
-use Rattle.judge.specs.Unnamed.{unnamed}
-use Rattle.judge.proofs.VerdictLaws.{resultOf, answer, judge-none, judge-holds, judge-violated}
+use Rattle.store.specs.Tables.{lineIn}
+use Rattle.arithmetic.proofs.RuleLaws.{given}
+use Rattle.store.specs.Tables.{unnamed}
+use Rattle.judge.proofs.VerdictLaws.{someResult, answer, judge-none, judge-holds, judge-violated}
 use Rattle.judge.proofs.lines.judge_line.Statement.{statement}
 use Rattle.judge.proofs.lines.judge_line.Tie as tie
 
@@ -38,7 +38,7 @@ target-requires c κs = search needs
 evaluate-requires : tie.Need-evaluate-requires
 evaluate-requires c κs =
     let h = c .before .before .before .before .before .before .before .before .before .before .pre .3 in
-    rw (c .target .ensures, c .before .output-of .ensures, c .before .before .word3 .ensures, c .before .before .before .third-of .ensures, c .before .before .before .before .word2 .ensures, c .before .before .before .before .before .second-of .ensures, c .before .before .before .before .before .before .word .ensures, c .before .before .before .before .before .before .before .first-of .ensures, c .before .before .before .before .before .before .before .before .operator-of .ensures) (given _ _ _ _ _ (h .widths) (h .typed) (h .fit))
+    rw (c .target .ensures, c .before .output-of .ensures, c .before .before .word3 .ensures, c .before .before .before .third-of .ensures, c .before .before .before .before .word2 .ensures, c .before .before .before .before .before .second-of .ensures, c .before .before .before .before .before .before .word .ensures, c .before .before .before .before .before .before .before .first-of .ensures, c .before .before .before .before .before .before .before .before .operator-of .ensures) (given _ _ _ _ _ (h .widths) (h .rule) (h .fit))
 
 -- what `evaluate` answers, said of the line
 told : (c : tie.After-evaluate) → let s = c .before .before .before .before .before .before .before .before .before .before .before .args in c .evaluate .result ≡ answer (unnamed (s .widths .now) (s .n)) (s .row .now) (lineIn (s .lines .now) (s .k))
@@ -50,30 +50,22 @@ enum-known-result c = search needs
 enum-told : tie.Need-enum-told
 enum-told c = search needs
 
-enum-told-2 : tie.Need-enum-told-2
-enum-told-2 c = search needs
-
 returns : tie.Need-returns
 returns c =
     let a = c .before .before .before .before .before in
-    let e = ap resultOf (sym (told a) ∙ c .before .before .before .result .given .1) in
+    let e = ap someResult (sym (told a) ∙ c .before .before .before .result .given .1) in
     judge-holds _ _ _ (a .before .before .before .before .before .before .before .before .before .before .before .pre .3) _ e (rw (a .before .target .ensures, a .before .before .output-of .ensures) at (c .if1 .taken))
 
 returns-2 : tie.Need-returns-2
 returns-2 c =
     let a = c .before .before .before .before .before in
-    let e = ap resultOf (sym (told a) ∙ c .before .before .before .result .given .1) in
+    let e = ap someResult (sym (told a) ∙ c .before .before .before .result .given .1) in
     judge-violated _ _ _ (a .before .before .before .before .before .before .before .before .before .before .before .pre .3) _ e (rw (a .before .target .ensures, a .before .before .output-of .ensures) at (c .if1 .left))
 
 returns-3 : tie.Need-returns-3
 returns-3 c =
     let a = c .before .before in
-    judge-none _ _ _ (a .before .before .before .before .before .before .before .before .before .before .before .pre .3) (ap resultOf (sym (told a) ∙ c .enum-told .given .1))
-
-returns-4 : tie.Need-returns-4
-returns-4 c =
-    let a = c .before .before in
-    judge-none _ _ _ (a .before .before .before .before .before .before .before .before .before .before .before .pre .3) (ap resultOf (sym (told a) ∙ c .enum-told2 .given .1))
+    judge-none _ _ _ (a .before .before .before .before .before .before .before .before .before .before .before .pre .3) (ap someResult (sym (told a) ∙ c .enum-told .given .1))
 
 pub judge-line-spec : {M : Type 1} → statement M
 judge-line-spec =
@@ -91,8 +83,6 @@ judge-line-spec =
     evaluate-requires
     enum-known-result
     enum-told
-    enum-told-2
     returns
     returns-2
-    returns-3
-    returns-4)
+    returns-3)

@@ -1,7 +1,5 @@
-use mathlib.Core.List.{[]}
 use borrow.Author.Needs.{needs}
-use Rattle.constraint.specs.File.{word}
-use Rattle.constraint.proofs.TypingLaws.{width-is}
+use Rattle.constraint.specs.File.{operandWord}
 use Rattle.judge.proofs.lines.word.Statement.{statement}
 use Rattle.judge.proofs.lines.word.Tie as tie
 
@@ -21,17 +19,15 @@ enum-known-o-2 : tie.Need-enum-known-o-2
 enum-known-o-2 c = search needs
 
 returns : tie.Need-returns
-unfolding word
+unfolding operandWord
 returns c = rw (c .enum-told .given .1)
 
 returns-2 : tie.Need-returns-2
-unfolding word
-returns-2 c =
-    let s = c .before .before .before .before .before .before .args in
-    rw (c .before .before .before .o .given .1, c .value-of .ensures, c .before .width-of .ensures, width-is [] [] [] (s .widths .now) (s .n))
+unfolding operandWord
+returns-2 c = rw (c .before .before .before .o .given .1, c .value-of .ensures, c .before .width-of .ensures)
 
 returns-3 : tie.Need-returns-3
-unfolding word
+unfolding operandWord
 returns-3 c = rw (c .before .o2 .given .1)
 
 pub word-spec : {M : Type 1} → statement M

@@ -1,5 +1,5 @@
 use borrow.Author.Needs.{needs}
-use Rattle.judge.specs.Judge.{overall}
+use Rattle.judge.specs.Judge.{overallOf}
 use Rattle.judge.proofs.verdicts.overall.Statement.{statement}
 use Rattle.judge.proofs.verdicts.overall.Tie as tie
 
@@ -22,17 +22,17 @@ enum-told-2 : tie.Need-enum-told-2
 enum-told-2 c = search needs
 
 returns : tie.Need-returns
-unfolding overall
+unfolding overallOf
 returns c = rw (← (c .before .before .before .first-verdict .ensures), c .before .n .given .1)
 
 returns-2 : tie.Need-returns-2
-unfolding overall
+unfolding overallOf
 returns-2 c =
     let s = c .before .before .before in
     rw (← (s .before .before .before .first-verdict .ensures), s .before .enum-told .given .1, ← (s .first-verdict2 .ensures), c .before .n2 .given .1)
 
 returns-3 : tie.Need-returns-3
-unfolding overall
+unfolding overallOf
 returns-3 c =
     let s = c .before .before in
     rw (← (s .before .before .before .first-verdict .ensures), s .before .enum-told .given .1, ← (s .first-verdict2 .ensures), c .enum-told2 .given .1)

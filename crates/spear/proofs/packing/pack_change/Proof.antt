@@ -5,8 +5,11 @@ use Rattle.spear.proofs.packing.pack_change.Tie as tie
 enum-known-reply : tie.Need-enum-known-reply
 enum-known-reply c = search needs
 
-kind-requires : tie.Need-kind-requires
-kind-requires c κs = search needs
+overall-number-requires : tie.Need-overall-number-requires
+overall-number-requires c κs = search needs
+
+cast-verdict-word : tie.Need-cast-verdict-word
+cast-verdict-word c = search needs
 
 line-requires : tie.Need-line-requires
 line-requires c κs = search needs
@@ -21,7 +24,7 @@ pack-refusal-requires : tie.Need-pack-refusal-requires
 pack-refusal-requires c κs = search needs
 
 returns : tie.Need-returns
-returns c = rw (c .before .before .before .before .reply .given .1, ← c .before .before .kind .ensures .0, ← c .before .line .ensures) (c .verdict-word .ensures)
+returns c = rw (c .before .before .before .before .reply .given .1, ← c .before .before .overall-number .ensures, ← c .before .line .ensures) (c .verdict-word .ensures)
 
 returns-2 : tie.Need-returns-2
 returns-2 c = rw (c .before .before .reply2 .given .1) (c .pack-refusal .ensures)
@@ -31,7 +34,8 @@ pack-change-spec =
     tie.close
     (tie.spec
     enum-known-reply
-    kind-requires
+    overall-number-requires
+    cast-verdict-word
     line-requires
     verdict-word-requires
     enum-known-reply-2

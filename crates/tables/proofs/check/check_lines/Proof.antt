@@ -6,10 +6,11 @@ use lib.ListN.{length, take}
 use lib.Seq.{length-take-le}
 use borrow.Author.Needs.{needs}
 use Rattle.refusal.specs.Result.{accepted}
-use Rattle.constraint.specs.declared.Progress.{Progress}
+use Rattle.store.specs.declared.Progress.{Progress}
 use Rattle.constraint.specs.File.{File}
 use Rattle.constraint.specs.Read.{readFile}
-use Rattle.constraint.specs.Answers.{Held, held, fileHeld, InTables}
+use Rattle.store.specs.Tables.{Store, storeOf}
+use Rattle.store.specs.Progress.{storedFile, InTables}
 use Rattle.judge.proofs.HeldLaws.{fresh-held}
 use Rattle.answer.specs.Read.{readAnswer}
 use Rattle.tables.specs.Check.{checked}
@@ -28,11 +29,11 @@ bytes c = start c .args .constraint .now
 abbrev progress : tie.After-p → Progress
 progress c = c .p .given .0 .0
 
-abbrev tables : tie.After-p → Held
-tables c = let l = c .before .before .read .last .1 in held (l .0) (l .1 .0) (l .1 .1 .0) (l .1 .1 .1 .0)
+abbrev tables : tie.After-p → Store
+tables c = let l = c .before .before .read .last .1 in storeOf (l .0) (l .1 .0) (l .1 .1 .0) (l .1 .1 .1 .0)
 
 abbrev file : tie.After-p → File
-file c = fileHeld (bytes c) (tables c) (progress c)
+file c = storedFile (bytes c) (tables c) (progress c)
 
 file-read : (c : tie.After-p) → accepted (file c) ≡ readFile (bytes c)
 file-read c = rw (c .p .given .1) at (c .before .before .read .ensures .0)

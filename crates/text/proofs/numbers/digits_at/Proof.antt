@@ -7,7 +7,7 @@ use native.Mathlib.Omega.{arith}
 use lib.ListN.{length, getD, drop}
 use borrow.Author.Needs.{needs}
 use borrow.Author.Tests.{not-true, not-false}
-use Rattle.text.specs.Bytes.{run}
+use Rattle.text.specs.Bytes.{frontOf}
 use Rattle.text.specs.Spelling.{decimalFrom, decimal}
 use Rattle.text.specs.declared.Class.the-variants.{Digit}
 use Rattle.text.specs.declared.Number.the-variants.{TooBig}
@@ -21,7 +21,7 @@ use Rattle.text.proofs.numbers.digits_at.Tie as tie
 record Reading (text : List ℕ) (at n i : ℕ) : Type 0 where
   within : i ≤ length text
   fits : n < 2 ^ 64
-  left : decimalFrom n (run (isOf Digit) (drop i text)) ≡ decimal (run (isOf Digit) (drop at text))
+  left : decimalFrom n (frontOf (isOf Digit) (drop i text)) ≡ decimal (frontOf (isOf Digit) (drop at text))
   stop : past (isOf Digit) text i ≡ past (isOf Digit) text at
 
 abbrev Inv-loop : tie.InvT-loop
@@ -36,7 +36,7 @@ unfolding isOf
 digit c = sym (c .before .is-digit .ensures) ∙ not-false _ (c .if1 .left)
 
 -- past 2 ^ 64 with it
-big : (c : tie.Else1 Inv-loop μ-loop) → let l = c .before .before .before .before in let a = l .before .before .args in 2 ^ 64 ≤ l .loop .n * 10 + (getD (a .text .now) (l .loop .i) 0 - 48) → TooBig ≡ magnitude (run (isOf Digit) (drop (a .at) (a .text .now)))
+big : (c : tie.Else1 Inv-loop μ-loop) → let l = c .before .before .before .before in let a = l .before .before .args in 2 ^ 64 ≤ l .loop .n * 10 + (getD (a .text .now) (l .loop .i) 0 - 48) → TooBig ≡ magnitude (frontOf (isOf Digit) (drop (a .at) (a .text .now)))
 big c h =
     let s = c .before .before .before in
     let l = s .before .loop in

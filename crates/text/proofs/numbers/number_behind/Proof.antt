@@ -3,7 +3,7 @@ use native.Mathlib.Omega.{arith}
 use lib.ListN.{length, drop-of-length-le}
 use Prim.Native.Nat.{_+_, _≤_}
 use Rattle.text.specs.Spelling.{isNumeral}
-use Rattle.text.specs.Scan.{numberOf}
+use Rattle.text.specs.Scan.{numberRead}
 use borrow.Author.Needs.{needs}
 use Rattle.text.proofs.numbers.number_behind.Statement.{statement}
 use Rattle.text.proofs.numbers.number_behind.Tie as tie
@@ -18,7 +18,7 @@ returns : tie.Need-returns
 returns c = search needs
 
 returns-2 : tie.Need-returns-2
-unfolding numberOf isNumeral
+unfolding numberRead isNumeral
 returns-2 c =
     let s = c .before .before .args in
     let h : length (s .text .now) ≤ s .at + 1 = omega arith in

@@ -1,17 +1,16 @@
--- `allowed` meets its contract. The loop's invariant: the run that is left ends where the whole one does.
-use Prim.Native.Nat.{_-_, _≤_}
-use mathlib.Core.Path.{_≡_, sym, _∙_}
+-- `allowed` meets its contract: a scan over allowed bytes, in leaps over printing ones.
+use Prim.Native.Nat.{_-_}
 use native.Mathlib.Omega.{arith}
 use lib.ListN.{length}
 use borrow.Author.Needs.{needs}
 use Rattle.text.specs.declared.Class.the-variants.{Allowed}
-use Rattle.text.specs.Scan.{isOf, past}
-use Rattle.text.proofs.RunLaws.{past-more, past-stop, past-end}
+use Rattle.text.specs.Scan.{isOf, Scanned}
+use Rattle.text.proofs.ScanLaws.{scan-leaps, scan-steps, scan-stops, scan-ends}
 use Rattle.text.proofs.scan.allowed.Statement.{statement}
 use Rattle.text.proofs.scan.allowed.Tie as tie
 
 abbrev Inv-loop : tie.InvT-loop
-Inv-loop text at i₀ i = (i ≤ length text) × (past (isOf Allowed) text i ≡ past (isOf Allowed) text at)
+Inv-loop text at i₀ i = Scanned (isOf Allowed) text at i
 
 abbrev μ-loop : tie.MeasureT-loop
 μ-loop text at i₀ i = length text - i
@@ -20,7 +19,7 @@ printing-requires : tie.Need-printing-requires Inv-loop μ-loop
 printing-requires c κs = search needs
 
 loop-holds : tie.Need-loop-holds Inv-loop μ-loop
-loop-holds c = (c .printing .ensures .0, c .printing .ensures .1)
+loop-holds c = c .printing .ensures
 
 shared-slice-read-is-allowed : tie.Need-shared-slice-read-is-allowed Inv-loop μ-loop
 shared-slice-read-is-allowed c = omega arith
@@ -41,17 +40,15 @@ loop-again : tie.Need-loop-again Inv-loop μ-loop
 unfolding isOf
 loop-again c =
     let t = c .before in
-    let l = t .before .before .before in
-    (c .printing2 .ensures .0, c .printing2 .ensures .1 ∙ past-more _ _ _ (l .loop-test .taken) (sym (t .before .is-allowed .ensures) ∙ t .if1 .taken) ∙ l .before .loop .inv .1)
+    let s = t .before .before .before in
+    scan-leaps (scan-steps (s .before .loop .inv) (s .loop-test .taken) (t .before .is-allowed .ensures) (t .if1 .taken)) (c .printing2 .ensures)
 
 returns : tie.Need-returns Inv-loop μ-loop
 unfolding isOf
-returns c =
-    let l = c .before .before .before in
-    sym (past-stop _ _ _ (l .loop-test .taken) (sym (c .before .is-allowed .ensures) ∙ c .if1 .left)) ∙ l .before .loop .inv .1
+returns c = let s = c .before .before .before in scan-stops (s .before .loop .inv) (s .loop-test .taken) (c .before .is-allowed .ensures) (c .if1 .left)
 
 returns-2 : tie.Need-returns-2 Inv-loop μ-loop
-returns-2 c = sym (past-end _ _ _ (c .loop-test .left)) ∙ c .before .loop .inv .1
+returns-2 c = scan-ends (c .before .loop .inv) (c .loop-test .left)
 
 pub allowed-spec : {M : Type 1} → statement M
 allowed-spec =

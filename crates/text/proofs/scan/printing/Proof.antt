@@ -1,13 +1,13 @@
--- `printing` meets its contract. The loop's invariant: the run of allowed bytes that is left ends where the whole one does.
-use Prim.Native.Nat.{ℕ, _-_, _≤_}
-use mathlib.Core.Path.{_≡_, refl, _∙_}
+-- `printing` meets its contract: a scan over allowed bytes that stops at the first that is not printing.
+use Prim.Native.Nat.{ℕ, _-_}
+use mathlib.Core.Path.{_≡_, refl}
 use mathlib.Core.Bool.{Bool, true, false, _||_}
 use native.Mathlib.Omega.{arith}
 use lib.ListN.{length}
 use Rattle.text.specs.declared.Class.the-variants.{Allowed}
-use Rattle.text.specs.Bytes.{within, isAllowed}
-use Rattle.text.specs.Scan.{isOf, past}
-use Rattle.text.proofs.RunLaws.{past-more}
+use Rattle.text.specs.Bytes.{between, isAllowed}
+use Rattle.text.specs.Scan.{isOf, Scanned}
+use Rattle.text.proofs.ScanLaws.{scan-starts, scan-steps}
 use Rattle.text.proofs.scan.printing.Statement.{statement}
 use Rattle.text.proofs.scan.printing.Tie as tie
 
@@ -16,18 +16,18 @@ or-true true = refl
 or-true false = refl
 
 -- a printing byte is allowed
-printing-allowed : (b : ℕ) → within 32 126 b ≡ true → isOf Allowed b ≡ true
+printing-allowed : (b : ℕ) → between 32 126 b ≡ true → isOf Allowed b ≡ true
 unfolding isOf isAllowed
 printing-allowed b e = rw (e, or-true)
 
 abbrev Inv-loop : tie.InvT-loop
-Inv-loop text at i₀ i = (i ≤ length text) × (past (isOf Allowed) text i ≡ past (isOf Allowed) text at) × (at ≤ i)
+Inv-loop text at i₀ i = Scanned (isOf Allowed) text at i
 
 abbrev μ-loop : tie.MeasureT-loop
 μ-loop text at i₀ i = length text - i
 
 loop-holds : tie.Need-loop-holds Inv-loop μ-loop
-loop-holds c = (omega arith, refl, omega arith)
+loop-holds c = scan-starts (c .pre)
 
 shared-slice-read-if1 : tie.Need-shared-slice-read-if1 Inv-loop μ-loop
 shared-slice-read-if1 c = omega arith
@@ -42,9 +42,7 @@ loop-less : tie.Need-loop-less Inv-loop μ-loop
 loop-less c = omega arith
 
 loop-again : tie.Need-loop-again Inv-loop μ-loop
-loop-again c =
-    let s = c .before .before .before in
-    (omega arith, past-more _ _ _ (s .loop-test .taken) (printing-allowed _ (c .if1 .taken)) ∙ s .before .loop .inv .1, omega arith)
+loop-again c = let s = c .before .before .before in scan-steps (s .before .loop .inv) (s .loop-test .taken) refl (printing-allowed _ (c .if1 .taken))
 
 returns : tie.Need-returns Inv-loop μ-loop
 returns c = c .before .before .before .before .loop .inv

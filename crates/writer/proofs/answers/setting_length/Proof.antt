@@ -1,7 +1,7 @@
 use native.Mathlib.Omega.{arith}
 use lib.ListN.{take, drop}
 use borrow.Author.Needs.{needs}
-use Rattle.writer.proofs.DigitLaws.{digits-count}
+use Rattle.printing.proofs.DigitLaws.{digits-count}
 use Rattle.writer.proofs.PartLaws.{part-length}
 use Rattle.writer.proofs.SettingLaws.{setting-length}
 use Rattle.writer.proofs.answers.setting_length.Statement.{statement}

@@ -1,0 +1,4 @@
+-- Laws that belong to no one function.
+pub mod HeaderLaws
+pub mod NewNameLaws
+pub mod DeclareLaws

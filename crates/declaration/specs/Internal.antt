@@ -1,0 +1,95 @@
+-- What the results of this crate's functions mean, in terms of the definitions.
+use Prim.Native.Nat.{ℕ, _+_, _≤_, _<_}
+use mathlib.Core.Bool.{Bool, cond, not, _&&_}
+use mathlib.Core.List.{List}
+use mathlib.Core.Option.{Option, none, some}
+use lib.Dec.{leb, ltb}
+use lib.ListN.{length, take}
+use Rattle.edition.specs.declared.Edition.{Edition}
+use Rattle.edition.specs.Edition.{editionNumbered, maxVariables, maxNameBytes}
+use Rattle.refusal.specs.declared.Subject.the-variants.{Constraint}
+use Rattle.refusal.specs.Numbers.{wrongVersion, wrongExpectation, overLimit, nameTaken}
+use Rattle.refusal.specs.Lists.{isThere}
+use Rattle.refusal.specs.Result.{Result, accepted, refused, _>>_}
+use Rattle.text.specs.declared.Number.{Number}
+use Rattle.text.specs.declared.Number.the-variants.{Value, TooBig, Misspelt}
+use Rattle.text.specs.Reading.{noMoreTokens}
+use Rattle.text.specs.Lines.{TextLine, Token}
+use Rattle.declaration.specs.declared.Declaration.{Declaration}
+use Rattle.declaration.specs.declared.Declaration.the-variants.{Fresh, Faulty}
+use Rattle.declaration.specs.declared.Declared.{Declared}
+use Rattle.declaration.specs.declared.Declared.the-variants.{Done, Fault}
+use Rattle.declaration.specs.declared.HeaderLine.{HeaderLine}
+use Rattle.declaration.specs.declared.HeaderLine.the-variants.{VersionLine, ExpectationLine}
+use Rattle.declaration.specs.declared.HeaderToken.{HeaderToken}
+use Rattle.declaration.specs.declared.HeaderToken.the-variants.{OfEdition, OfNumber, Wrong}
+use Rattle.constraint.specs.File.{Variable, File, withVariables, withVersion, withExpectation, variableNamed}
+use Rattle.spelling.specs.Operators.{isReserved}
+use Rattle.constraint.specs.Read.{at, versionOf, expectationOf, readVersion, readExpectation}
+
+-- the edition of two numbers as they were read
+abbrev pub editionBy : Number → Number → Option Edition
+editionBy (Value a) (Value b) = editionNumbered a b
+editionBy (Value a) TooBig = none
+editionBy (Value a) Misspelt = none
+editionBy TooBig n = none
+editionBy Misspelt n = none
+
+-- a variable by the length of its name and its width, or the number of the token's refusal
+abbrev pub declarationResult : Token → Declaration → Result Variable
+declarationResult t (Fresh len k) = accepted (record { name = take len (t .bytes); width = k })
+declarationResult t (Faulty number) = refused (at t number)
+
+-- what is said of a name that is declared with a width, once both are spelt right
+unfoldable pub newName : Edition → List Variable → List ℕ → ℕ → Declaration
+newName e xs name k =
+    let free = cond (not (isReserved e name) && not (isThere (variableNamed name xs))) (Fresh (length name) k) (Faulty nameTaken) in
+    cond (leb (length name) maxNameBytes && ltb (length xs) maxVariables) free (Faulty overLimit)
+
+-- a fresh declaration has room in the tables, and its name lies in the token
+abbrev pub FreshFits : ℕ → ℕ → ℕ → Declaration → Type 0
+FreshFits n start end (Fresh len k) = (n < maxVariables) × (start + len ≤ end)
+FreshFits n start end (Faulty number) = Unit {0}
+
+-- after a `d` line: how many variables there are, or a refusal
+abbrev pub declaredResult : File → (ℕ → List Variable) → Declared → Result File
+declaredResult f xs (Done n) = accepted (withVariables f (xs n))
+declaredResult f xs (Fault r) = refused r
+
+-- they lie within the tables
+abbrev pub DeclaredInTables : Declared → Type 0
+DeclaredInTables (Done n) = n ≤ maxVariables
+DeclaredInTables (Fault r) = Unit {0}
+
+-- the file, unless there are more tokens
+abbrev pub unlessMore : List Token → File → Result File
+unlessMore ts f = noMoreTokens Constraint ts >> accepted f
+
+-- what the token of a `v` or `e` line says
+abbrev pub editionToken : Option Edition → HeaderToken
+editionToken (some e) = OfEdition e
+editionToken none = Wrong wrongVersion
+
+abbrev pub numberToken : Option ℕ → HeaderToken
+numberToken (some n) = OfNumber n
+numberToken none = Wrong wrongExpectation
+
+abbrev pub headerToken : HeaderLine → List ℕ → HeaderToken
+headerToken VersionLine s = editionToken (versionOf s)
+headerToken ExpectationLine s = numberToken (expectationOf s)
+
+-- whether a file has no such line yet
+abbrev pub isFirst : HeaderLine → File → Bool
+isFirst VersionLine f = not (isThere (f .version))
+isFirst ExpectationLine f = not (isThere (f .expectation))
+
+-- the line of the token t, with the tokens ts behind it
+abbrev pub tokenResult : Token → List Token → File → HeaderToken → Result File
+tokenResult t ts f (OfEdition e) = unlessMore ts (withVersion f e)
+tokenResult t ts f (OfNumber n) = unlessMore ts (withExpectation f n)
+tokenResult t ts f (Wrong number) = refused (at t number)
+
+-- reading the line
+abbrev pub readHeaderLine : HeaderLine → File → TextLine → Result File
+readHeaderLine VersionLine f l = readVersion f l
+readHeaderLine ExpectationLine f l = readExpectation f l

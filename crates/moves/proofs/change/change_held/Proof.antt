@@ -1,0 +1,111 @@
+use Prim.Native.Nat.{_≤_, _<_}
+use mathlib.Core.Path.{sym, _∙_}
+use native.Mathlib.Omega.{arith}
+use lib.ListN.{length, set, length-set}
+use lib.Seq.{length-take-le}
+use borrow.Author.Needs.{needs}
+use Rattle.moves.specs.Gate.{unnamedFile}
+use Rattle.moves.proofs.GateLaws.{Passed, unnamed-sized, changing-passed, passed-within}
+use Rattle.moves.proofs.ChangeLaws.{change-refused, change-accepted, stored-fits, accept-is}
+use Rattle.moves.proofs.change.change_held.Statement.{statement}
+use Rattle.moves.proofs.change.change_held.Tie as tie
+
+-- the tests that passed
+passed : (c : tie.After-enum-told) → let s = c .before .before .before .before .before .before .before .args in Passed (unnamedFile (s .widths .now) (s .n) (s .lines .now) (s .m)) (s .values .now) (s .verdicts .now) (s .i) (s .v)
+passed c = changing-passed _ _ _ _ _ (sym (rw (c .enum-told .given .1) at (c .before .before .gate .ensures (c .before .before .before .before .before .before .before .args .lines .now))))
+
+within : (c : tie.After-enum-told) → let s = c .before .before .before .before .before .before .before .args in (s .i < s .n) × (s .n ≤ length (s .values .now)) × (s .m ≤ length (s .verdicts .now))
+within c = let s = c .before .before .before .before .before .before .before .args in passed-within _ _ _ _ _ _ _ (unnamed-sized (s .widths .now) (s .n) (s .lines .now) (s .m)) (passed c)
+
+gate-requires : tie.Need-gate-requires
+gate-requires c κs = search needs
+
+enum-known-r : tie.Need-enum-known-r
+enum-known-r c = search needs
+
+enum-told : tie.Need-enum-told
+enum-told c = search needs
+
+mul-old : tie.Need-mul-old
+mul-old c = omega (arith, within c)
+
+slice-read-old : tie.Need-slice-read-old
+slice-read-old c = omega (arith, within (c .before))
+
+mul-values : tie.Need-mul-values
+mul-values c = omega (arith, within (c .before))
+
+slice-write-values : tie.Need-slice-write-values
+slice-write-values c = omega (arith, within (c .before))
+
+slice-reshare-prefix-renew : tie.Need-slice-reshare-prefix-renew
+slice-reshare-prefix-renew c = let s = c .before .before .before .before .before .before .before .before .args in omega (arith, within (c .before), length-set (s .values .now) (s .i) (s .v))
+
+slice-aggregate-renew : tie.Need-slice-aggregate-renew
+slice-aggregate-renew c = let s = c .before .before .before .before .before .before .before .before .before .args in sym (length-take-le (s .n) (set (s .values .now) (s .i) (s .v)) (omega (arith, within (c .before .before), length-set (s .values .now) (s .i) (s .v))))
+
+renew-requires : tie.Need-renew-requires
+renew-requires c κs =
+    let s = c .before .before .before .before .before .before .before .before .before .before in
+    let a = s .args in
+    (s .pre .0, s .pre .1, s .pre .2, within (c .before .before .before) .2, s .pre .3 _ (stored-fits _ _ _ _ _ (passed (c .before .before .before)) _ _ (unnamed-sized (a .widths .now) (a .n) (a .lines .now) (a .m))))
+
+slice-reshare-prefix-overall : tie.Need-slice-reshare-prefix-overall
+slice-reshare-prefix-overall c = omega (arith, within (c .before .before .before .before .before .before), c .before .before .renew .kept .1 .1 .1 .1 .1 .0)
+
+slice-aggregate-overall : tie.Need-slice-aggregate-overall
+slice-aggregate-overall c = let r = c .before .before .before .renew in sym (length-take-le _ (r .last .1 .1 .1 .1 .1 .0) (omega (arith, within (c .before .before .before .before .before .before .before), r .kept .1 .1 .1 .1 .1 .0)))
+
+overall-requires : tie.Need-overall-requires
+overall-requires c κs = search needs
+
+differing-bits-requires : tie.Need-differing-bits-requires
+differing-bits-requires c κs = search needs
+
+same-length : tie.Need-same-length
+same-length c = search needs
+
+same-length-2 : tie.Need-same-length-2
+same-length-2 c = search needs
+
+returns : tie.Need-returns
+returns c = change-refused _ _ _ _ _ _ (rw (c .before .r .given .1) at (c .before .before .before .gate .ensures (c .before .before .before .before .before .before .before .before .args .lines .now)))
+
+same-length-3 : tie.Need-same-length-3
+same-length-3 c = search needs
+
+same-length-4 : tie.Need-same-length-4
+same-length-4 c = search needs
+
+returns-2 : tie.Need-returns-2
+returns-2 c =
+    let t = c .before .before .before .before .before .before .before .before .before in
+    let a = t .before .before .before .before .before .before .before .args in
+    let r = c .before .before .before .before .before .renew in
+    accept-is _ _ _ _ _ (passed t) _ _ (unnamed-sized (a .widths .now) (a .n) (a .lines .now) (a .m)) _ _ _ _ _ (r .ensures .0) (c .before .overall .ensures) (r .ensures .1) (r .ensures .2) (c .differing-bits .ensures)
+    ∙ change-accepted _ _ _ _ _ (rw (t .enum-told .given .1) at (t .before .before .gate .ensures (a .lines .now)))
+
+pub change-held-spec : {M : Type 1} → statement M
+change-held-spec =
+    tie.close
+    (tie.spec
+    gate-requires
+    enum-known-r
+    enum-told
+    mul-old
+    slice-read-old
+    mul-values
+    slice-write-values
+    slice-reshare-prefix-renew
+    slice-aggregate-renew
+    renew-requires
+    slice-reshare-prefix-overall
+    slice-aggregate-overall
+    overall-requires
+    differing-bits-requires
+    same-length
+    same-length-2
+    returns
+    same-length-3
+    same-length-4
+    returns-2)

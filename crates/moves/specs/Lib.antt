@@ -1,0 +1,4 @@
+pub mod Change
+pub mod Gate
+pub mod Run
+pub mod WholeRun

@@ -1,0 +1,32 @@
+// The change of a single value, and runs of changes.
+use judge::Overall;
+use refusal::Refusal;
+
+pub mod change;
+pub mod claims;
+pub mod runs;
+
+// What a change did: the overall verdict by the table, how many lines name the variable, how many verdicts became different, and how many bits of the value.
+pub struct Effect {
+    pub overall: Overall,
+    pub named: usize,
+    pub altered: usize,
+    pub bits: u64,
+}
+
+pub enum ChangeReply {
+    Changed(Effect),
+    Refused(Refusal),
+}
+
+// The tests of a change.
+pub enum Gate {
+    Pass,
+    Bar(Refusal),
+}
+
+// How many lines were renewed, and how many verdicts became different.
+pub struct Renewal {
+    pub named: usize,
+    pub altered: usize,
+}

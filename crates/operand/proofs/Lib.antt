@@ -1,0 +1,4 @@
+-- Laws that belong to no one function.
+pub mod ConstantLaws
+pub mod TakenLaws
+pub mod VariableUseLaws

@@ -1,0 +1,85 @@
+-- `named` meets its contract: bytes of a name up to the token's end are a name, and anything else is misspelt.
+use Prim.Native.Nat.{_≤_, _<_}
+use mathlib.Core.Path.{_≡_, sym, _∙_}
+use native.Mathlib.Omega.{arith}
+use lib.ListN.{length, take}
+use lib.Seq.{length-take-le}
+use Rattle.text.proofs.FirstByteLaws.{name-bounds}
+use Rattle.operand.proofs.TakenLaws.{named-refused, named-read, named-broken}
+use borrow.Author.Needs.{needs}
+use Rattle.operand.proofs.variables.named.Statement.{statement}
+use Rattle.operand.proofs.variables.named.Tie as tie
+
+-- where the bytes of the name stop
+bounds : (c : tie.After-name-bytes) → let a = c .before .before .before .args in (a .at < c .name-bytes .result) × (c .name-bytes .result ≤ length (a .line .now)) × (length (take (c .name-bytes .result) (a .line .now)) ≡ c .name-bytes .result)
+bounds c =
+    let s = c .before .before .before in
+    let b = name-bounds (s .args .line .now) (s .args .at) (s .pre .0) (s .pre .2) (c .name-bytes .result) (c .name-bytes .ensures) in
+    (b .0, b .1, length-take-le (c .name-bytes .result) (s .args .line .now) (b .1))
+
+add-next : tie.Need-add-next
+add-next c = search needs
+
+name-bytes-requires : tie.Need-name-bytes-requires
+name-bytes-requires c κs = search needs
+
+token-ends-requires : tie.Need-token-ends-requires
+token-ends-requires c κs = bounds c .1
+
+slice-aggregate-variable : tie.Need-slice-aggregate-variable
+slice-aggregate-variable c = sym (bounds (c .before .before .before) .2)
+
+variable-requires : tie.Need-variable-requires
+variable-requires c κs = let n = c .before .before .before in (omega (arith, bounds n), n .before .before .before .pre .1)
+
+enum-known-number : tie.Need-enum-known-number
+enum-known-number c = search needs
+
+refusal-requires : tie.Need-refusal-requires
+refusal-requires c κs = search needs
+
+enum-known-o : tie.Need-enum-known-o
+enum-known-o c = search needs
+
+refusal-requires-2 : tie.Need-refusal-requires-2
+refusal-requires-2 c κs = search needs
+
+returns : tie.Need-returns
+returns c =
+    let v = c .before .before .before .before in
+    let n = v .before .before .before .before in
+    let s = n .before .before .before in
+    let e = sym (v .before .before .before .token-ends .ensures) ∙ v .before .before .if1 .taken in
+    (λ widths d. rw (c .refusal .ensures) (named-refused _ (s .args .line .now) (s .args .at) (s .pre .0) (s .pre .2) (n .name-bytes .result) (n .name-bytes .ensures) e _ (rw (c .before .before .number .given .1) at (v .variable .ensures widths d))), tt)
+
+returns-2 : tie.Need-returns-2
+returns-2 c =
+    let v = c .before .before .before in
+    let n = v .before .before .before .before in
+    let s = n .before .before .before in
+    let e = sym (v .before .before .before .token-ends .ensures) ∙ v .before .before .if1 .taken in
+    (λ widths d. named-read _ (s .args .line .now) (s .args .at) (s .pre .0) (s .pre .2) (n .name-bytes .result) (n .name-bytes .ensures) e _ (rw (c .before .o .given .1) at (v .variable .ensures widths d)), bounds n .1)
+
+returns-3 : tie.Need-returns-3
+returns-3 c =
+    let n = c .before .before .before in
+    let s = n .before .before .before in
+    let e = sym (c .before .before .token-ends .ensures) ∙ c .before .if1 .left in
+    (λ widths d. rw (c .refusal2 .ensures) (named-broken _ (s .args .line .now) (s .args .at) (s .pre .0) (s .pre .2) (n .name-bytes .result) (n .name-bytes .ensures) e), tt)
+
+pub named-spec : {M : Type 1} → statement M
+named-spec =
+    tie.close
+    (tie.spec
+    add-next
+    name-bytes-requires
+    token-ends-requires
+    slice-aggregate-variable
+    variable-requires
+    enum-known-number
+    refusal-requires
+    enum-known-o
+    refusal-requires-2
+    returns
+    returns-2
+    returns-3)

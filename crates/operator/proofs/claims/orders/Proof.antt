@@ -1,9 +1,0 @@
-use Rattle.operator.proofs.OrderLaws.{orders}
-use Rattle.operator.proofs.claims.orders.Statement.{statement}
-use Rattle.operator.proofs.claims.orders.Tie as tie
-
-returns : tie.Need-returns
-returns c = orders
-
-pub orders-spec : {M : Type 1} → statement M
-orders-spec = tie.close (tie.spec returns)

@@ -1,9 +1,0 @@
-use Rattle.operator.proofs.ResultLaws.{results-fit}
-use Rattle.operator.proofs.claims.results_fit.Statement.{statement}
-use Rattle.operator.proofs.claims.results_fit.Tie as tie
-
-returns : tie.Need-returns
-returns c = results-fit
-
-pub results-fit-spec : {M : Type 1} → statement M
-results-fit-spec = tie.close (tie.spec returns)

@@ -1,0 +1,8 @@
+-- Laws that belong to no one function.
+pub mod WordLaws
+pub mod OperatorLaws
+pub mod LineLaws
+pub mod KindLaws
+pub mod OthersLaws
+pub mod HeaderLaws
+pub mod SaysLaws

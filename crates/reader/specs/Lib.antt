@@ -1,0 +1,3 @@
+pub mod Inspect
+pub mod Edges
+pub mod Internal

@@ -1,0 +1,7 @@
+// The claims: each is the contract of an empty function, so that a check lists it by name.
+ghost use Rattle.report.specs.Claims.{CaseWhole};
+
+// The scope document's case gets the report that it has there.
+pub fn one_case_whole()
+    ensures { λ _. ⌜ CaseWhole ⌝ }
+{}

@@ -1,0 +1,81 @@
+// Cases of two files and two tables, as standard input has them: a line of 38 bytes, and the bytes of the files.
+// The line has a letter and four numbers of eight hexadecimal digits: the lengths of the constraint file and of the answer, and the entries of the value table and of the verdict table.
+use super::hex;
+use super::load;
+ghost use Rattle.reporting.specs.CaseRooms.{Roomy};
+
+// Room for a file, and for one that is longer than a file may be.
+pub const FILE: usize = 70000;
+
+pub const VALUES: usize = 300;
+
+pub const VERDICTS: usize = 1100;
+
+// What stands in a table of verdicts before a call.
+pub const NO_VERDICT: u8 = 7;
+
+const HEADER: usize = 38;
+
+// Where the four numbers of a header stand.
+const FIRST: usize = 2;
+
+const SECOND: usize = 11;
+
+const THIRD: usize = 20;
+
+const FOURTH: usize = 29;
+
+const NUMBER: usize = 8;
+
+pub struct Sizes {
+    pub constraint: usize,
+    pub answer: usize,
+    pub values: usize,
+    pub verdicts: usize,
+}
+
+pub enum NextCase {
+    Case(Sizes),
+    End,
+}
+
+fn read_header(header: &[u8; HEADER]) -> Sizes {
+    Sizes {
+        constraint: hex(header, FIRST, FIRST + NUMBER) as usize,
+        answer: hex(header, SECOND, SECOND + NUMBER) as usize,
+        values: hex(header, THIRD, THIRD + NUMBER) as usize,
+        verdicts: hex(header, FOURTH, FOURTH + NUMBER) as usize,
+    }
+}
+
+// The next case; none where none is left, or it is larger than the room for it.
+pub fn next_case() -> NextCase
+    ensures { λ r. ⌜ Roomy r ⌝ }
+{
+    let mut header = [0u8; HEADER];
+    if !load(&mut header) {
+        return NextCase::End;
+    }
+    let s = read_header(&header);
+    if FILE < s.constraint {
+        return NextCase::End;
+    }
+    if FILE < s.answer {
+        return NextCase::End;
+    }
+    if VALUES < s.values {
+        return NextCase::End;
+    }
+    if VERDICTS < s.verdicts {
+        return NextCase::End;
+    }
+    NextCase::Case(s)
+}
+
+// Fills the bytes of both parts of a case from standard input; false where it is too short.
+pub fn load_both(first: &mut [u8], second: &mut [u8]) -> bool {
+    if !load(first) {
+        return false;
+    }
+    load(second)
+}

@@ -1,0 +1,50 @@
+-- The number that a C program gets: 0 exactly where the answer satisfies the file, and one of those that are listed. Assumes nothing.
+use Prim.Native.Nat.{ℕ}
+use mathlib.Core.Path.{_≡_, refl, ap}
+use mathlib.Core.List.{List}
+use native.Mathlib.Omega.{arith}
+use Rattle.refusal.specs.Result.{Result, accepted, refused}
+use Rattle.refusal.proofs.RefusesLaws.{Refuses, refuses-accepted, refuses-bind}
+use Rattle.constraint.specs.File.{File}
+use Rattle.judge.specs.declared.Overall.{Overall}
+use Rattle.judge.specs.declared.Overall.the-variants.{Satisfied, Violated, Disregarded}
+use Rattle.judge.specs.Judge.{freshVerdicts, overallOf, overallNumber}
+use Rattle.tables.specs.declared.Tally.{Tally}
+use Rattle.tables.specs.declared.Report.{Report}
+use Rattle.tables.specs.declared.Report.the-variants.{Judged, Refused}
+use Rattle.tables.specs.Report.{answering, reported, reportOutcome}
+use Rattle.tables.proofs.ReportedLaws.{reported-exactly}
+use Rattle.spear.specs.Code.{codeOf, ZeroExactly, IsCode, of-verdict, of-refusal, CodesAre}
+use Rattle.spear.proofs.PackLaws.{overall-small}
+use Rattle.spear.proofs.FileNumberLaws.{FileNumber, file-numbered, answer-numbered}
+
+-- ---- 0 is satisfied
+zero-satisfied : (o : Overall) → overallNumber o ≡ 0 → o ≡ Satisfied
+zero-satisfied Satisfied e = refl
+zero-satisfied (Violated n) e = let z : ⊥ = omega arith in absurd z
+zero-satisfied (Disregarded n) e = let z : ⊥ = omega arith in absurd z
+
+zero-judged : (r : Report) → codeOf r ≡ 0 → (t : Tally) × (r ≡ Judged Satisfied t)
+zero-judged (Judged o t) e = (t, ap (λ o. Judged o t) (zero-satisfied o e))
+zero-judged (Refused x) e = let z : ⊥ = omega arith in absurd z
+
+pub zero-exactly : ZeroExactly
+zero-exactly constraint answer =
+    let both = reported-exactly constraint answer in
+    (λ e. both .0 (zero-judged (reportOutcome constraint answer) e), λ s. ap codeOf (both .1 s .1))
+
+-- ---- no other number
+module _ (constraint answer : List ℕ) where
+  answering-numbered : Refuses FileNumber (answering constraint answer)
+  unfolding answering
+  answering-numbered =
+      refuses-bind (file-numbered constraint) λ f.
+      refuses-bind (answer-numbered (f .variables) answer) λ row.
+      refuses-accepted
+
+  code-is : (r : Result (File × List ℕ)) → answering constraint answer ≡ r → IsCode (codeOf (reported r))
+  code-is (accepted (f, row)) e = let s = overall-small (overallOf (freshVerdicts f row)) in of-verdict (omega arith)
+  code-is (refused x) e = let h = answering-numbered .holds x e in of-refusal (omega (arith, h .least)) (omega (arith, h .most))
+
+pub codes-are : CodesAre
+codes-are constraint answer = code-is constraint answer (answering constraint answer) refl

@@ -1,0 +1,28 @@
+use Rattle.store.specs.OperandWords.{bodyOf}
+use borrow.Author.Needs.{needs}
+use Rattle.store.proofs.lines.body.Statement.{statement}
+use Rattle.store.proofs.lines.body.Tie as tie
+
+enum-told : tie.Need-enum-told
+enum-told c = search needs
+
+enum-known-o : tie.Need-enum-known-o
+enum-known-o c = search needs
+
+enum-known-o-2 : tie.Need-enum-known-o-2
+enum-known-o-2 c = search needs
+
+returns : tie.Need-returns
+unfolding bodyOf
+returns c = rw (c .enum-told .given .1)
+
+returns-2 : tie.Need-returns-2
+unfolding bodyOf
+returns-2 c = rw (c .before .o .given .1)
+
+returns-3 : tie.Need-returns-3
+unfolding bodyOf
+returns-3 c = rw (c .before .o2 .given .1)
+
+pub body-spec : {M : Type 1} → statement M
+body-spec = tie.close (tie.spec enum-told enum-known-o enum-known-o-2 returns returns-2 returns-3)

@@ -1,0 +1,36 @@
+// The tables that hold a constraint file: its variables and its lines. No other crate knows their layout.
+use edition::Edition;
+use refusal::Refusal;
+
+pub mod lines;
+pub mod names;
+pub mod widths;
+
+// Where a name stands among the variables.
+pub enum Found {
+    At(usize),
+    Nowhere,
+}
+
+pub enum Version {
+    NoVersion,
+    HasVersion(Edition),
+}
+
+pub enum Expectation {
+    NoExpectation,
+    HasExpectation(u64),
+}
+
+// As much of a file as is read; its variables and lines stand in the tables.
+pub struct Progress {
+    pub version: Version,
+    pub expectation: Expectation,
+    pub variables: usize,
+    pub lines: usize,
+}
+
+pub enum Step {
+    Next(Progress),
+    Stop(Refusal),
+}
