@@ -30,10 +30,10 @@ module _ (e : Edition) (xs : List Variable) (sound : Each (SoundVariable e) xs) 
     Fits v = v < 2 ^ widthAt xs i
 
     -- the value of one token, if it names the variable, in front of the others
-    front-fits : (t : Token) (h : IsSetting xs t) (b : Bool) (vs : List ℕ) → same (nameAt xs (h .variable)) (nameAt xs i) ≡ b → Each Fits vs → Each Fits (cond b (decimal (h .digits) ∷ []) [] ++ vs)
+    front-fits : (t : Token) (h : IsSetting xs t) (b : Bool) (vs : List ℕ) → same (nameAt xs (h .variable)) (nameAt xs i) ≡ b → Each Fits vs → Each Fits (cond b (decimal (h .value-digits) ∷ []) [] ++ vs)
     front-fits t h true vs q p =
         let j : h .variable ≡ i = same-number xs distinct (h .variable) i (h .declared) declared (same-true _ _ q) in
-        (rw (← j) (h .fits), p)
+        (rw (← j) (h .value-fits), p)
     front-fits t h false vs q p = p
 
     -- the values of all tokens

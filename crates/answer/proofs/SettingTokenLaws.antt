@@ -32,7 +32,7 @@ use Rattle.answer.proofs.NamedLaws.{named-is, named-at}
 pub record SetsTo (xs : List Variable) (t : Token) (i v : ℕ) : Type 0 where
   pub setting : IsSetting xs t
   pub number-is : setting .variable ≡ i
-  pub value-is : decimal (setting .digits) ≡ v
+  pub value-is : decimal (setting .value-digits) ≡ v
 
 -- a numeral has a digit
 numeral-length : (n : ℕ) (s : List ℕ) → isNumeral n s ≡ true → 1 ≤ length s
@@ -54,11 +54,11 @@ module _ (xs : List Variable) (t : Token) where
       yields-accepted (record {
         setting = record {
           variable = i;
-          digits = number;
+          value-digits = number;
           declared = variable-within name xs i e;
           numeral = n;
           spelt = rw (named-is name xs i e) (parts-join (code "=") (t .bytes) (numeral-length maxDigits number n));
-          fits = ltb-true (decimal number) (2 ^ widthAt xs i) f;
+          value-fits = ltb-true (decimal number) (2 ^ widthAt xs i) f;
         };
         number-is = refl;
         value-is = refl;
@@ -89,19 +89,19 @@ module _ (e : Edition) (xs : List Variable) (sound : Each (SoundVariable e) xs) 
   -- the parts of a setting
   module _ (t : Token) (h : IsSetting xs t) where
     pub setting-name : upTo (code "=") (t .bytes) ≡ nameAt xs (h .variable)
-    setting-name = rw (h .spelt) (up-to-join (code "=") (h .digits) (nameAt xs (h .variable)) (name-plain _ (name-spelt (h .variable) (h .declared))))
+    setting-name = rw (h .spelt) (up-to-join (code "=") (h .value-digits) (nameAt xs (h .variable)) (name-plain _ (name-spelt (h .variable) (h .declared))))
 
-    pub setting-digits : behind (code "=") (t .bytes) ≡ h .digits
-    setting-digits = rw (h .spelt) (behind-join (code "=") (h .digits) (nameAt xs (h .variable)) (name-plain _ (name-spelt (h .variable) (h .declared))))
+    pub setting-digits : behind (code "=") (t .bytes) ≡ h .value-digits
+    setting-digits = rw (h .spelt) (behind-join (code "=") (h .value-digits) (nameAt xs (h .variable)) (name-plain _ (name-spelt (h .variable) (h .declared))))
 
   -- a token that sets a variable is accepted
   module _ (distinct : Distinct xs) (t : Token) where
-    taken : (h : IsSetting xs t) → settingOf xs t ≡ accepted (h .variable, decimal (h .digits))
+    taken : (h : IsSetting xs t) → settingOf xs t ≡ accepted (h .variable, decimal (h .value-digits))
     unfolding settingOf
     taken h =
         let i = h .variable in
-        let bound : decimal (h .digits) < numberBound = omega (arith, h .fits, pow-mono (width-most i (h .declared))) in
-        rw (setting-name t h, setting-digits t h, name-spelt i (h .declared), h .numeral, lt-ltb (decimal (h .digits)) numberBound bound, le-leb (length (nameAt xs i)) maxNameBytes (name-short i (h .declared)), named-at xs distinct i (h .declared), lt-ltb (decimal (h .digits)) (2 ^ widthAt xs i) (h .fits))
+        let bound : decimal (h .value-digits) < numberBound = omega (arith, h .value-fits, pow-mono (width-most i (h .declared))) in
+        rw (setting-name t h, setting-digits t h, name-spelt i (h .declared), h .numeral, lt-ltb (decimal (h .value-digits)) numberBound bound, le-leb (length (nameAt xs i)) maxNameBytes (name-short i (h .declared)), named-at xs distinct i (h .declared), lt-ltb (decimal (h .value-digits)) (2 ^ widthAt xs i) (h .value-fits))
 
     pub setting-accepted : (i v : ℕ) → SetsTo xs t i v → settingOf xs t ≡ accepted (i, v)
     setting-accepted i v h = taken (h .setting) ∙ rw (h .number-is, h .value-is)

@@ -41,7 +41,7 @@ pub record SetsAll (xs : List Variable) (vs us : List (Option ℕ)) (ts : List T
 record SetsOne (xs : List Variable) (vs us : List (Option ℕ)) (t : Token) : Type 0 where
   setting : IsSetting xs t
   unset : getD vs (setting .variable) none ≡ none
-  is-set : us ≡ set vs (setting .variable) (some (decimal (setting .digits)))
+  is-set : us ≡ set vs (setting .variable) (some (decimal (setting .value-digits)))
 
 one-yields : (xs : List Variable) (vs : List (Option ℕ)) (t : Token) → Yields (λ us. SetsOne xs vs us t) (readSetting xs vs t)
 unfolding readSetting
@@ -68,7 +68,7 @@ no-more-values (some u) (some w) e = let z : u ≡ w = cc e in ap some z
 module _ (e : Edition) (xs : List Variable) (sound : Each (SoundVariable e) xs) (distinct : Distinct xs) where
   -- a token in front of others gives its variable its value, and the other variables none
   module _ (t : Token) (h : IsSetting xs t) (ts : List Token) where
-    values-here : valuesIn (nameAt xs (h .variable)) (t ∷ ts) ≡ decimal (h .digits) ∷ valuesIn (nameAt xs (h .variable)) ts
+    values-here : valuesIn (nameAt xs (h .variable)) (t ∷ ts) ≡ decimal (h .value-digits) ∷ valuesIn (nameAt xs (h .variable)) ts
     unfolding valuesIn flatMap
     values-here = rw (setting-name e xs sound t h, setting-digits e xs sound t h, same-self (nameAt xs (h .variable)))
 
@@ -78,18 +78,18 @@ module _ (e : Edition) (xs : List Variable) (sound : Each (SoundVariable e) xs) 
 
     -- where the variable is not set, it may as well be set before them
     module _ (vs : List (Option ℕ)) (long : length vs ≡ length xs) (unset : getD vs (h .variable) none ≡ none) where
-      values-step : (i : ℕ) → i < length xs → Option·toList (getD (set vs (h .variable) (some (decimal (h .digits)))) i none) ++ valuesIn (nameAt xs i) ts ≡ Option·toList (getD vs i none) ++ valuesIn (nameAt xs i) (t ∷ ts)
+      values-step : (i : ℕ) → i < length xs → Option·toList (getD (set vs (h .variable) (some (decimal (h .value-digits)))) i none) ++ valuesIn (nameAt xs i) ts ≡ Option·toList (getD vs i none) ++ valuesIn (nameAt xs i) (t ∷ ts)
       unfolding Option·toList
       values-step i b =
           let j = h .variable in
           elim (ℕ-discrete i j) [
-            | yes p ↦ (let k : j < length vs = omega (arith, h .declared) in rw (p, getD-set-same vs j (some (decimal (h .digits))) none k, unset, values-here))
-            | no p ↦ rw (getD-set-other vs j i (some (decimal (h .digits))) none p, values-elsewhere i b p)
+            | yes p ↦ (let k : j < length vs = omega (arith, h .declared) in rw (p, getD-set-same vs j (some (decimal (h .value-digits))) none k, unset, values-here))
+            | no p ↦ rw (getD-set-other vs j i (some (decimal (h .value-digits))) none p, values-elsewhere i b p)
           ]
 
-      one-accepted : readSetting xs vs t ≡ accepted (set vs (h .variable) (some (decimal (h .digits))))
+      one-accepted : readSetting xs vs t ≡ accepted (set vs (h .variable) (some (decimal (h .value-digits))))
       unfolding readSetting
-      one-accepted = rw (setting-accepted e xs sound distinct t (h .variable) (decimal (h .digits)) (record { setting = h; number-is = refl; value-is = refl }), unset)
+      one-accepted = rw (setting-accepted e xs sound distinct t (h .variable) (decimal (h .value-digits)) (record { setting = h; number-is = refl; value-is = refl }), unset)
 
   -- ---- all tokens
   -- what is accepted sets all
@@ -111,7 +111,7 @@ module _ (e : Edition) (xs : List Variable) (sound : Each (SoundVariable e) xs) 
       let s = h .no-other .0 in
       let j = s .variable in
       let unset = one-value (getD us j none) (getD vs j none) _ _ (h .values j (s .declared) ∙ ap (λ (r : List ℕ). Option·toList (getD vs j none) ++ r) (values-here t s ts)) in
-      let ws = set vs j (some (decimal (s .digits))) in
+      let ws = set vs j (some (decimal (s .value-digits))) in
       let k : length ws ≡ length vs = length-set vs _ _ in
       rw (one-accepted t s ts vs l unset) (settings-accepted ts ws us (k ∙ l) (record { no-other = h .no-other .1; long = h .long ∙ sym k; values = λ i b. h .values i b ∙ sym (values-step t s ts vs l unset i b) }))
 

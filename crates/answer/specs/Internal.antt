@@ -1,4 +1,4 @@
--- What the reader's own answers and tables mean, in terms of the definitions.
+-- What the results of this crate's functions and its own tables mean, in terms of the definitions.
 use Prim.Native.Nat.{ℕ, _<_, _^_}
 use mathlib.Core.Path.{_≡_}
 use mathlib.Core.Bool.{cond}

@@ -20,7 +20,7 @@ ghost use lib.ListN.{length, drop};
 ghost use Rattle.edition.specs.Edition.{maxVariables};
 ghost use Rattle.refusal.specs.Lists.{isThere};
 ghost use Rattle.refusal.specs.declared.Subject.the-variants.{Answer};
-ghost use Rattle.text.specs.Lines.{textLines as linesOf};
+ghost use Rattle.text.specs.Lines.{textLines};
 ghost use Rattle.text.specs.Reading.{readAnyLine, readLines};
 ghost use Rattle.store.specs.Tables.{variablesIn};
 ghost use Rattle.text.specs.Scan.{lineAt};
@@ -128,7 +128,7 @@ fn read_lines<'a>(
     values: &mut [u64; Edition::VARIABLES],
 ) -> AnswerProgress
     requires { ⌜ (n ≤ maxVariables) × SettingsSized (now flags) (now values) ⌝ }
-    ensures { λ r. ⌜ (answerStep (entriesIn (now (flags .exit)) (now (values .exit)) n) r ≡ readLines Answer (readAnswerLine (variablesIn (now (file .entry)) (now (starts .entry)) (now (lens .entry)) (now (widths .entry)) n)) (settingsOf false (entriesIn (now (flags .entry)) (now (values .entry)) n)) (linesOf (now (answer .entry)))) × SettingsSized (now (flags .exit)) (now (values .exit)) ⌝ }
+    ensures { λ r. ⌜ (answerStep (entriesIn (now (flags .exit)) (now (values .exit)) n) r ≡ readLines Answer (readAnswerLine (variablesIn (now (file .entry)) (now (starts .entry)) (now (lens .entry)) (now (widths .entry)) n)) (settingsOf false (entriesIn (now (flags .entry)) (now (values .entry)) n)) (textLines (now (answer .entry)))) × SettingsSized (now (flags .exit)) (now (values .exit)) ⌝ }
 {
     let mut solved = false;
     let mut i = 0;

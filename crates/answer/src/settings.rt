@@ -10,7 +10,7 @@ use store::Found;
 use store::names::lookup;
 use store::widths::width_of;
 use text::Class;
-use text::Next;
+use text::NextToken;
 use text::Number;
 use text::numbers::MAX_DIGITS;
 use text::numbers::number_behind;
@@ -102,10 +102,10 @@ fn set_all<'a>(
     let mut i = at;
     while i < line.len() {
         match next_token(line, i) {
-            Next::Nothing => {
+            NextToken::NoMore => {
                 return AnswerProgress::Next(true);
             }
-            Next::Found(t) => {
+            NextToken::OneMore(t) => {
                 let start = t.start;
                 let stop = t.stop;
                 match setting(file, starts, lens, widths, n, &line[..stop], start) {

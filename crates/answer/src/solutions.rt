@@ -6,7 +6,7 @@ use super::words::unknown;
 use super::words::unsatisfiable;
 use refusal::Refusal;
 use refusal::Subject;
-use text::Next;
+use text::NextToken;
 use text::compare::is_word;
 use text::scan::next_token;
 ghost use mathlib.Core.Path.{_≡_};
@@ -53,8 +53,8 @@ fn unless_more(line: &[u8], at: usize) -> AnswerProgress
     ensures { λ r. ⌜ ((vs : List (Option ℕ)) → answerStep vs r ≡ unlessSurplus (tokensFrom true at (drop at (now (line .entry)))) (settingsOf true vs)) ⌝ }
 {
     match next_token(line, at) {
-        Next::Found(t) => AnswerProgress::Stop(refusal(Refusal::TOKEN_COUNT, t.start)),
-        Next::Nothing => AnswerProgress::Next(true),
+        NextToken::OneMore(t) => AnswerProgress::Stop(refusal(Refusal::TOKEN_COUNT, t.start)),
+        NextToken::NoMore => AnswerProgress::Next(true),
     }
 }
 
@@ -68,8 +68,8 @@ pub(crate) fn solution_line(line: &[u8], at: usize, solved: bool) -> AnswerProgr
     }
     let next = at + 1;
     match next_token(line, next) {
-        Next::Nothing => AnswerProgress::Stop(refusal(Refusal::TOKEN_COUNT, line.len())),
-        Next::Found(t) => {
+        NextToken::NoMore => AnswerProgress::Stop(refusal(Refusal::TOKEN_COUNT, line.len())),
+        NextToken::OneMore(t) => {
             let start = t.start;
             let stop = t.stop;
             match solution_at(&line[..stop], start) {

@@ -5,7 +5,7 @@
 // of `r` a constraint file and an answer, then the entries of the table; of `w` a constraint file, the values in 16 digits each, then the bytes of the room.
 use answer::ReadReply;
 use libc::STDOUT_FILENO;
-use reporting::cases::load_both;
+use reporting::cases::next_both;
 use writer::WriteReply;
 
 const HEADER: usize = 36;
@@ -48,7 +48,7 @@ fn parse(digits: &[u8], table: &mut [u64]) {
 
 // Loads the files of a case, and answers it; false where the input is too short.
 fn read_case(constraint: &mut [u8], answer: &mut [u8], table: &mut [u64]) -> bool {
-    if !load_both(constraint, answer) {
+    if !next_both(constraint, answer) {
         return false;
     }
     reporting::fill(table);
@@ -67,7 +67,7 @@ fn write_case(
     table: &mut [u64],
     room: &mut [u8],
 ) -> bool {
-    if !load_both(constraint, digits) {
+    if !next_both(constraint, digits) {
         return false;
     }
     parse(digits, table);
@@ -127,7 +127,7 @@ fn run_write(constraint_length: usize, entries: usize, room_length: usize) -> bo
 // Answers the next case; false where none is left, or one is larger than the room for it.
 fn run_case() -> bool {
     let mut header = [0u8; HEADER];
-    if !reporting::load(&mut header) {
+    if !reporting::next_bytes(&mut header) {
         return false;
     }
     let first = reporting::hex(&header, FIRST, FIRST + NUMBER) as usize;

@@ -77,7 +77,7 @@ fn extension_number(o: Extension) -> u64
 }
 
 // The number of an operator.
-pub fn number(op: Operator) -> u64
+pub fn operator_number(op: Operator) -> u64
     ensures { λ r. ⌜ r ≡ operatorNumber op ⌝ }
 {
     match op {
@@ -97,7 +97,7 @@ pub fn number(op: Operator) -> u64
 }
 
 // The operator of a number; any above the last is the last one's.
-pub fn numbered(n: u64) -> Operator
+pub fn operator_numbered(n: u64) -> Operator
     ensures { λ r. ⌜ r ≡ operatorNumbered n ⌝ }
 {
     match n {

@@ -14,7 +14,7 @@ use reporting::cases::NextCase;
 use reporting::cases::Sizes;
 use reporting::cases::VALUES;
 use reporting::cases::VERDICTS;
-use reporting::cases::load_both;
+use reporting::cases::next_both;
 use reporting::cases::next_case;
 use tables::check::check;
 use verdict_printing::print_overall;
@@ -54,7 +54,7 @@ fn print_change(reply: ChangeReply) {
 // Makes the next change; false where the run ends.
 fn change_next(constraint: &[u8], values: &mut [u64], verdicts: &mut [u8]) -> bool {
     let mut line = [0u8; CHANGE];
-    if !reporting::load(&mut line) {
+    if !reporting::next_bytes(&mut line) {
         return false;
     }
     if line[0] != b'c' {
@@ -91,7 +91,7 @@ fn replay_run(
     values: &mut [u64],
     verdicts: &mut [u8],
 ) -> bool {
-    if !load_both(constraint, answer) {
+    if !next_both(constraint, answer) {
         return false;
     }
     replay(constraint, answer, values, verdicts);

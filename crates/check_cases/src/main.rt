@@ -11,7 +11,7 @@ use reporting::cases::NextCase;
 use reporting::cases::Sizes;
 use reporting::cases::VALUES;
 use reporting::cases::VERDICTS;
-use reporting::cases::load_both;
+use reporting::cases::next_both;
 use reporting::cases::next_case;
 use spear::spear_check;
 use tables::check::check;
@@ -37,7 +37,7 @@ fn answer_case(
     values: &mut [u64],
     verdicts: &mut [u8],
 ) -> bool {
-    if !load_both(constraint, answer) {
+    if !next_both(constraint, answer) {
         return false;
     }
     print_case(constraint, answer, values, verdicts);

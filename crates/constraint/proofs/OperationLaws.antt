@@ -149,7 +149,7 @@ module _ (f : File) (l : TextLine) (h : SoundFile f) where
       yields-no-more Constraint (q .1)
       (yields-ensure (wellTyped (f .variables) line) _ λ w.
       yields-accepted (with-line f line h room (record {
-        typed = w;
+        type-rules = w;
         widths = widths-there (editionOf f) (f .variables) (h .variables) op output (q .0 .first) (q .0 .second) (q .0 .third) o (k .there);
         output = o;
         first = k .first;

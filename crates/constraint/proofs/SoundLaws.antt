@@ -29,7 +29,7 @@ use Rattle.constraint.proofs.OperationLaws.{statement-keeps}
 -- the editions have the same spellings
 any-edition : (e d : Edition) (x : Variable) → SoundVariable e x → SoundVariable d x
 unfolding spellings
-any-edition e d x h = record { spelt = h .spelt; named = h .named; short = h .short; free = h .free; width = h .width }
+any-edition e d x h = record { spelt = h .spelt; not-empty = h .not-empty; short = h .short; free = h .free; width = h .width }
 
 with-version : (f : File) (e : Edition) → SoundFile f → SoundFile (withVersion f e)
 with-version f e h = record {

@@ -13,7 +13,7 @@ use Rattle.refusal.specs.declared.Subject.the-variants.{Constraint}
 use Rattle.refusal.specs.Numbers.{unknownLine, misplacedLine, wrongVersion, wrongExpectation, misspelt, notAWidth, numberTooLarge, overLimit, nameTaken, notDeclared, unknownOperator, typeRuleBroken}
 use Rattle.refusal.specs.Lists.{isThere}
 use Rattle.refusal.specs.Result.{Result, accepted, refused, refusal, ensure, given, _>>=_, _>>_}
-use Rattle.refusal.specs.Words.{ascii}
+use Rattle.refusal.specs.SubjectWords.{ascii}
 use Rattle.arithmetic.specs.Rules.{arity}
 use Rattle.text.specs.Bytes.{same}
 use Rattle.text.specs.Lines.{TextLine, Token, arguments, leads}
@@ -32,11 +32,11 @@ use Rattle.constraint.specs.TypeRules.{wellTyped}
 use Rattle.spelling.specs.Operators.{operatorNamed, isReserved}
 
 -- the refusal of a token, and of a line at its start
-abbrev pub at : Token → ℕ → Refusal
-at = atToken Constraint
+abbrev pub inConstraint : Token → ℕ → Refusal
+inConstraint = atToken Constraint
 
-abbrev pub atStart : TextLine → ℕ → Refusal
-atStart = atLine Constraint
+abbrev pub atConstraintLine : TextLine → ℕ → Refusal
+atConstraintLine = atLine Constraint
 
 -- THE HEADER
 
@@ -47,9 +47,9 @@ inHeader f = eqb (length (f .lines)) 0
 -- a line with one token, where such a line is allowed: `parse` says what the token means, `add` is the file with it
 unfoldable pub readSingle : {A : Type 0} → Bool → (List ℕ → Option A) → ℕ → (A → File) → TextLine → Result File
 readSingle allowed parse wrong add l = do
-  ensure allowed (atStart l misplacedLine)
+  ensure allowed (atConstraintLine l misplacedLine)
   (t, ts) ← nextToken Constraint l (arguments l)
-  a ← given (parse (t .bytes)) (at t wrong)
+  a ← given (parse (t .bytes)) (inConstraint t wrong)
   noMoreTokens Constraint ts
   accepted (add a)
 
@@ -81,10 +81,10 @@ unfoldable pub declare : Edition → List Variable → Token → Result Variable
 declare e xs t = do
   let name = upTo (code ":") (t .bytes)
   let type = behind (code ":") (t .bytes)
-  ensure (isName name && isType type) (at t misspelt)
-  ensure (isWidth (typeWidth type)) (at t notAWidth)
-  ensure (leb (length name) maxNameBytes && ltb (length xs) maxVariables) (at t overLimit)
-  ensure (not (isReserved e name) && not (isThere (variableNamed name xs))) (at t nameTaken)
+  ensure (isName name && isType type) (inConstraint t misspelt)
+  ensure (isWidth (typeWidth type)) (inConstraint t notAWidth)
+  ensure (leb (length name) maxNameBytes && ltb (length xs) maxVariables) (inConstraint t overLimit)
+  ensure (not (isReserved e name) && not (isThere (variableNamed name xs))) (inConstraint t nameTaken)
   accepted (record { name = name; width = typeWidth type })
 
 -- declarations from left to right
@@ -95,7 +95,7 @@ declareAll f (t ∷ ts) = declare (editionOf f) (f .variables) t >>= λ x. decla
 -- "`d` takes one or more"
 unfoldable pub readDeclarations : File → TextLine → Result File
 readDeclarations f l = do
-  ensure (inHeader f) (atStart l misplacedLine)
+  ensure (inHeader f) (atConstraintLine l misplacedLine)
   (t, ts) ← nextToken Constraint l (arguments l)
   declareAll f (t ∷ ts)
 
@@ -104,8 +104,8 @@ readDeclarations f l = do
 -- a variable used; a reserved name is never declared, so 13 as well
 unfoldable pub readVariable : List Variable → Token → Result Operand
 readVariable xs t = do
-  ensure (leb (length (t .bytes)) maxNameBytes) (at t overLimit)
-  i ← given (variableNamed (t .bytes) xs) (at t notDeclared)
+  ensure (leb (length (t .bytes)) maxNameBytes) (inConstraint t overLimit)
+  i ← given (variableNamed (t .bytes) xs) (inConstraint t notDeclared)
   accepted (Var i)
 
 -- a constant: "read as an unsigned number below 2^64 and reduced modulo 2^K"
@@ -113,9 +113,9 @@ unfoldable pub readConstant : Token → Result Operand
 readConstant t = do
   let number = upTo (code ":") (t .bytes)
   let type = behind (code ":") (t .bytes)
-  ensure (isNumeral maxDigits number && isType type) (at t misspelt)
-  ensure (isWidth (typeWidth type)) (at t notAWidth)
-  ensure (ltb (decimal number) numberBound) (at t numberTooLarge)
+  ensure (isNumeral maxDigits number && isType type) (inConstraint t misspelt)
+  ensure (isWidth (typeWidth type)) (inConstraint t notAWidth)
+  ensure (ltb (decimal number) numberBound) (inConstraint t numberTooLarge)
   accepted (Const (record { width = typeWidth type; value = decimal number % 2 ^ typeWidth type }))
 
 -- an operand, or the output of a `c` line: a token that is a name is a variable, any other a constant
@@ -148,11 +148,11 @@ readOperands xs l (suc n) ts = do
 unfoldable pub readOperation : File → TextLine → Operand → List Token → Result Line
 readOperation f l output ts = do
   (t, ts) ← nextToken Constraint l ts
-  op ← given (operatorNamed (editionOf f) (t .bytes)) (at t unknownOperator)
+  op ← given (operatorNamed (editionOf f) (t .bytes)) (inConstraint t unknownOperator)
   (os, ts) ← readOperands (f .variables) l (arity op) ts
   noMoreTokens Constraint ts
   let line : Line = record { output = output; operator = op; operands = os }
-  ensure (wellTyped (f .variables) line) (at t typeRuleBroken)
+  ensure (wellTyped (f .variables) line) (inConstraint t typeRuleBroken)
   accepted line
 
 -- the output of a line, and the tokens behind it; a `p` line has none
@@ -163,7 +163,7 @@ nextOutput Predicate xs l ts = accepted (Absent, ts)
 -- "`c` takes an output (variable or constant), an operator, its operands; `p` an operator and its operands"
 unfoldable pub readStatement : Form → File → TextLine → Result Line
 readStatement form f l = do
-  ensure (ltb (length (f .lines)) maxLines) (atStart l overLimit)
+  ensure (ltb (length (f .lines)) maxLines) (atConstraintLine l overLimit)
   (output, ts) ← nextOutput form (f .variables) l (arguments l)
   readOperation f l output ts
 
@@ -192,7 +192,7 @@ readAs OfVersion f l = readVersion f l
 readAs OfExpectation f l = readExpectation f l
 readAs OfDeclarations f l = readDeclarations f l
 readAs (OfStatement form) f l = addLine f (readStatement form f l)
-readAs OfNoKind f l = refused (atStart l unknownLine)
+readAs OfNoKind f l = refused (atConstraintLine l unknownLine)
 
 unfoldable pub readLine : File → TextLine → Result File
 readLine f l = readAs (kindOf (l .bytes)) f l

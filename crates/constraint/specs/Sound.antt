@@ -31,7 +31,7 @@ SoundOperand xs (Const w) = IsWidth (w .width) × (w .value < 2 ^ w .width)
 
 -- a line meets the type rule; the operands that its operator takes are there, their widths and its result's are 1 to 64; all its operands are sound
 pub record SoundLine (xs : List Variable) (l : Line) : Type 0 where
-  pub typed : wellTyped xs l ≡ true
+  pub type-rules : wellTyped xs l ≡ true
   pub widths : widthsHold (l .operator) (resultWidth xs (l .output)) (ruleWord xs (l .operands .first)) (ruleWord xs (l .operands .second)) (ruleWord xs (l .operands .third)) ≡ true
   pub output : SoundOperand xs (l .output)
   pub first : SoundOperand xs (l .operands .first)
@@ -41,7 +41,7 @@ pub record SoundLine (xs : List Variable) (l : Line) : Type 0 where
 -- a variable's name is spelt as a name, has 1 to 32 bytes and is not reserved, and its width is 1 to 64
 pub record SoundVariable (e : Edition) (x : Variable) : Type 0 where
   pub spelt : isName (x .name) ≡ true
-  pub named : 1 ≤ length (x .name)
+  pub not-empty : 1 ≤ length (x .name)
   pub short : length (x .name) ≤ maxNameBytes
   pub free : isReserved e (x .name) ≡ false
   pub width : IsWidth (x .width)

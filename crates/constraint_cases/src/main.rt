@@ -20,8 +20,8 @@ fn print_counts(counts: Counts) {
     io::print_decimal(STDOUT_FILENO, counts.lines as u64);
 }
 
-fn print_answer(answer: Inspected) {
-    match answer {
+fn print_inspected(reply: Inspected) {
+    match reply {
         Inspected::Sound(counts) => print_counts(counts),
         Inspected::Refused(refusal) => reporting::print_refusal(refusal),
     }
@@ -44,7 +44,7 @@ fn run_file(file: &mut [u8]) -> bool {
     if n < file.len() {
         return false;
     }
-    print_answer(reader::inspect(file));
+    print_inspected(reader::inspect(file));
     true
 }
 

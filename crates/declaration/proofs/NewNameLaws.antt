@@ -30,7 +30,7 @@ use Rattle.declaration.specs.declared.Declaration.{Declaration}
 use Rattle.declaration.specs.declared.Declaration.the-variants.{Fresh, Faulty}
 use Rattle.constraint.specs.File.{Variable, variableNamed}
 use Rattle.spelling.specs.Operators.{isReserved}
-use Rattle.constraint.specs.Read.{at, declare}
+use Rattle.constraint.specs.Read.{inConstraint, declare}
 use Rattle.text.specs.Scan.{tokenAt}
 use Rattle.declaration.specs.Internal.{declarationResult, newName, FreshFits}
 
@@ -68,10 +68,10 @@ declarationOf true (Width k) new = new k
 
 -- the tests, whatever they say
 split : (t : Token) (name : List ℕ) (k : ℕ) → name ≡ take (length name) (t .bytes) → (named type width small free : Bool) → declarationResult t (declarationOf named (cond type (cond width (Width k) NoWidth) NoType) (λ k. cond small (cond free (Fresh (length name) k) (Faulty nameTaken)) (Faulty overLimit))) ≡ (do
-  ensure (named && type) (at t misspelt)
-  ensure width (at t notAWidth)
-  ensure small (at t overLimit)
-  ensure free (at t nameTaken)
+  ensure (named && type) (inConstraint t misspelt)
+  ensure width (inConstraint t notAWidth)
+  ensure small (inConstraint t overLimit)
+  ensure free (inConstraint t nameTaken)
   accepted (record { name = name; width = k }))
 split t name k e false type width small free = refl
 split t name k e true false width small free = refl

@@ -25,7 +25,7 @@ use Rattle.declaration.specs.declared.HeaderToken.{HeaderToken}
 use Rattle.declaration.specs.declared.HeaderToken.the-variants.{OfEdition, OfNumber, Wrong}
 use Rattle.constraint.specs.File.{Variable, File, withVariables, withVersion, withExpectation, variableNamed}
 use Rattle.spelling.specs.Operators.{isReserved}
-use Rattle.constraint.specs.Read.{at, versionOf, expectationOf, readVersion, readExpectation}
+use Rattle.constraint.specs.Read.{inConstraint, versionOf, expectationOf, readVersion, readExpectation}
 
 -- the edition of two numbers as they were read
 abbrev pub editionBy : Number → Number → Option Edition
@@ -38,7 +38,7 @@ editionBy Misspelt n = none
 -- a variable by the length of its name and its width, or the number of the token's refusal
 abbrev pub declarationResult : Token → Declaration → Result Variable
 declarationResult t (Fresh len k) = accepted (record { name = take len (t .bytes); width = k })
-declarationResult t (Faulty number) = refused (at t number)
+declarationResult t (Faulty number) = refused (inConstraint t number)
 
 -- what is said of a name that is declared with a width, once both are spelt right
 unfoldable pub newName : Edition → List Variable → List ℕ → ℕ → Declaration
@@ -87,7 +87,7 @@ isFirst ExpectationLine f = not (isThere (f .expectation))
 abbrev pub tokenResult : Token → List Token → File → HeaderToken → Result File
 tokenResult t ts f (OfEdition e) = unlessMore ts (withVersion f e)
 tokenResult t ts f (OfNumber n) = unlessMore ts (withExpectation f n)
-tokenResult t ts f (Wrong number) = refused (at t number)
+tokenResult t ts f (Wrong number) = refused (inConstraint t number)
 
 -- reading the line
 abbrev pub readHeaderLine : HeaderLine → File → TextLine → Result File

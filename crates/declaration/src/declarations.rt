@@ -9,7 +9,7 @@ use store::Progress;
 use store::Step;
 use store::names::BYTES;
 use store::names::remember;
-use text::Next;
+use text::NextToken;
 use text::scan::next_token;
 ghost use mathlib.Core.Path.{_≡_};
 ghost use mathlib.Core.Bool.{true};
@@ -45,10 +45,10 @@ fn declare_all(
     while i < stop {
         let line = &file[..stop];
         match next_token(line, i) {
-            Next::Nothing => {
+            NextToken::NoMore => {
                 return Declared::Done(k);
             }
-            Next::Found(t) => {
+            NextToken::OneMore(t) => {
                 let start = t.start;
                 let end = t.stop;
                 match declare(file, starts, lens, k, &line[..end], start) {
@@ -104,8 +104,17 @@ pub fn declaration_line(
     }
     let next = at + 1;
     match next_token(&file[..stop], next) {
-        Next::Nothing => Step::Stop(refusal(Refusal::TOKEN_COUNT, stop)),
-        Next::Found(_) => match declare_all(file, stop, next, starts, lens, guesses, widths, n) {
+        NextToken::NoMore => Step::Stop(refusal(Refusal::TOKEN_COUNT, stop)),
+        NextToken::OneMore(_) => match declare_all(
+            file,
+            stop,
+            next,
+            starts,
+            lens,
+            guesses,
+            widths,
+            n,
+        ) {
             Declared::Done(k) => Step::Next(with_variables(p, k)),
             Declared::Fault(r) => Step::Stop(r),
         },

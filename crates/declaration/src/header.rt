@@ -9,7 +9,7 @@ use store::Progress;
 use store::Step;
 use store::Version;
 use text::Class;
-use text::Next;
+use text::NextToken;
 use text::Number;
 use text::compare::is_word;
 use text::numbers::number_at;
@@ -148,8 +148,8 @@ fn unless_more(line: &[u8], at: usize, next: Progress) -> Step
     ensures { λ r. ⌜ ((bytes : List ℕ) (t : Store) → stepResult bytes t r ≡ unlessMore (tokensFrom true at (drop at (now (line .entry)))) (storedFile bytes t next)) × (InTables next → StepInTables r) ⌝ }
 {
     match next_token(line, at) {
-        Next::Found(t) => Step::Stop(refusal(Refusal::TOKEN_COUNT, t.start)),
-        Next::Nothing => Step::Next(next),
+        NextToken::OneMore(t) => Step::Stop(refusal(Refusal::TOKEN_COUNT, t.start)),
+        NextToken::NoMore => Step::Next(next),
     }
 }
 
@@ -166,8 +166,8 @@ pub fn header_line(text: &[u8], at: usize, p: Progress, line: HeaderLine) -> Ste
     }
     let next = at + 1;
     match next_token(text, next) {
-        Next::Nothing => Step::Stop(refusal(Refusal::TOKEN_COUNT, text.len())),
-        Next::Found(t) => {
+        NextToken::NoMore => Step::Stop(refusal(Refusal::TOKEN_COUNT, text.len())),
+        NextToken::OneMore(t) => {
             let start = t.start;
             let stop = t.stop;
             match token_at(&text[..stop], start, line) {

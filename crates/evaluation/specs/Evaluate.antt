@@ -1,4 +1,4 @@
--- The answer of an evaluation.
+-- The result of an evaluation.
 use Prim.Native.Nat.{ℕ}
 use mathlib.Core.Option.{Option, none, some}
 use Rattle.evaluation.specs.declared.Evaluated.{Evaluated}

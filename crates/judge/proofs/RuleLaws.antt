@@ -66,5 +66,5 @@ module _ (xs : List Variable) (row : List ℕ) (l : Line) (s : SoundLine xs l) w
       let c = ruleWord xs (l .operands .third) in
       let t = typed (l .operator) k a b c in
       let r = constantRule (l .operator) (l .operands .second) (l .operands .third) in
-      let p = and-true t r (and-true (t && r) (predicateRule (l .output) (l .operator) (operandsTaken (l .operator) a b c)) (s .typed) .0) in
+      let p = and-true t r (and-true (t && r) (predicateRule (l .output) (l .operator) (operandsTaken (l .operator) a b c)) (s .type-rules) .0) in
       rw (target-same xs row (l .output)) (typed-same xs row (l .operator) k (l .operands .first) (l .operands .second) (l .operands .third) (p .1) ∙ p .0)

@@ -18,7 +18,7 @@ ghost use mathlib.Core.List.{_++_};
 ghost use Prim.Native.Nat.{_≤_, _<_};
 ghost use lib.ListN.{length, getD, drop};
 ghost use Rattle.edition.specs.Edition.{maxVariables, maxLines};
-ghost use Rattle.constraint.specs.File.{operandWord as wordOf, target as targetOf};
+ghost use Rattle.constraint.specs.File.{operandWord, target as targetOf};
 ghost use Rattle.store.specs.Tables.{tableWords, lineIn, linesIn};
 ghost use Rattle.constraint.specs.Sound.{Each};
 ghost use Rattle.judge.specs.Judge.{judge, verdictsOf};
@@ -33,9 +33,9 @@ fn value_of(row: &[u64], i: usize) -> u64
 }
 
 // An operand, of n variables with these widths, under a row of values.
-fn word(widths: &[u64; Edition::VARIABLES], n: usize, row: &[u64], o: Operand) -> Word
+fn operand_word(widths: &[u64; Edition::VARIABLES], n: usize, row: &[u64], o: Operand) -> Word
     requires { ⌜ n ≤ maxVariables ⌝ }
-    ensures { λ r. ⌜ r ≡ wordOf (unnamed (now (widths .entry)) n) (now (row .entry)) o ⌝ }
+    ensures { λ r. ⌜ r ≡ operandWord (unnamed (now (widths .entry)) n) (now (row .entry)) o ⌝ }
 {
     match o {
         Operand::Absent => Word { width: 0, value: 0 },
@@ -57,7 +57,7 @@ fn target(widths: &[u64; Edition::VARIABLES], n: usize, row: &[u64], o: Operand)
             width: I1,
             value: 1,
         },
-        Operand::Var(_) => word(widths, n, row, o),
+        Operand::Var(_) => operand_word(widths, n, row, o),
         Operand::Const(w) => w,
     }
 }
@@ -74,9 +74,9 @@ pub fn judge_line<'a>(
     ensures { λ r. ⌜ r ≡ judge (unnamed (now (widths .entry)) n) (now (row .entry)) (lineIn (now (lines .entry)) k) ⌝ }
 {
     let op = operator_of(lines, k);
-    let a = word(widths, n, row, first_of(lines, k));
-    let b = word(widths, n, row, second_of(lines, k));
-    let c = word(widths, n, row, third_of(lines, k));
+    let a = operand_word(widths, n, row, first_of(lines, k));
+    let b = operand_word(widths, n, row, second_of(lines, k));
+    let c = operand_word(widths, n, row, third_of(lines, k));
     let goal = target(widths, n, row, output_of(lines, k));
     match evaluate(op, goal.width, a, b, c) {
         Evaluated::Value(result) => {

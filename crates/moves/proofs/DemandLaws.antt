@@ -8,7 +8,7 @@ use lib.ListN.{length, take-append-drop}
 use Rattle.edition.specs.Edition.{edition10, editionNumbered, isWidth}
 use Rattle.refusal.specs.Lists.{every, firstFrom}
 use Rattle.refusal.specs.Result.{accepted}
-use Rattle.refusal.specs.Words.{ascii}
+use Rattle.refusal.specs.SubjectWords.{ascii}
 use Rattle.refusal.proofs.ResultLaws.{never}
 use Rattle.text.specs.Bytes.{same, frontOf, isSpace, isLineFeed, isAllowed, isDigit, isLetter, isNameByte}
 use Rattle.text.specs.Lines.{lineOf, linesFrom, tokenOf, tokensFrom, leads}
@@ -45,7 +45,7 @@ down-read = refl
 
 switch-checked : AcceptedCheck switch switchDown (0 ∷ []) [] switchFile (0 ∷ []) (0 ∷ []) []
 unfolding checking checkingFor verdictsOf firstVerdict overallOf firstFrom
-switch-checked = record { file-is-read = switch-read; answer-is-read = down-read; verdict = Satisfied; call = rw (switch-read, down-read) }
+switch-checked = record { file-is-read = switch-read; answer-is-read = down-read; overall = Satisfied; call = rw (switch-read, down-read) }
 
 -- ---- two changes of it, lent the whole tables
 abbrev flip : ℕ → Change

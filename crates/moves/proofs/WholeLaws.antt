@@ -23,7 +23,7 @@ use Rattle.tables.specs.declared.CheckReply.the-variants.{Checked}
 use Rattle.tables.specs.Check.{CheckOutcome, checking, checked}
 use Rattle.moves.specs.Change.{numbersFit}
 use Rattle.moves.specs.Run.{Change, modelling, modelled, modelReplies, modelOutcome, modelRow}
-use Rattle.moves.specs.WholeRun.{AcceptedCheck, NotHeld, WholeRun, AsFreshCheck}
+use Rattle.moves.specs.WholeRun.{AcceptedCheck, HeldFits, WholeRun, AsFreshCheck}
 use Rattle.tables.proofs.CheckingLaws.{checking-steps, steps-checking}
 use Rattle.tables.proofs.CheckLaws.{tables-filled}
 use Rattle.moves.proofs.TouchLaws.{run-touches}
@@ -45,19 +45,19 @@ model-refuses f c =
     refuses-ensure (ltb (c .variable) (length (f .variables))) _ (λ e. omega arith) (
     refuses-test (ltb (c .value) (2 ^ widthAt (f .variables) (c .variable))) (refusal Call valueDoesNotFit 0) (λ e. omega arith))))
 
-reply-not-held : (f : File) (row : List ℕ) (c : Change) (r : Result (Unit {0})) → modelling f c ≡ r → NotHeld (modelled f row c r .reply)
-reply-not-held f row c (accepted tt) e = tt
-reply-not-held f row c (refused x) e = model-refuses f c .holds x e
+reply-fits : (f : File) (row : List ℕ) (c : Change) (r : Result (Unit {0})) → modelling f c ≡ r → HeldFits (modelled f row c r .reply)
+reply-fits f row c (accepted tt) e = tt
+reply-fits f row c (refused x) e = model-refuses f c .holds x e
 
-none-held : (f : File) (row : List ℕ) (cs : List Change) → Each NotHeld (modelReplies f row cs)
+all-fit : (f : File) (row : List ℕ) (cs : List Change) → Each HeldFits (modelReplies f row cs)
 unfolding modelReplies
-none-held f row [] = tt
-none-held f row (c ∷ cs) = (reply-not-held f row c (modelling f c) refl, none-held f (modelOutcome f row c .row) cs)
+all-fit f row [] = tt
+all-fit f row (c ∷ cs) = (reply-fits f row c (modelling f c) refl, all-fit f (modelOutcome f row c .row) cs)
 
 -- ---- the start
 module _ (constraint answer values verdicts : List ℕ) (f : File) (row values₁ verdicts₁ : List ℕ) (a : AcceptedCheck constraint answer values verdicts f row values₁ verdicts₁) where
   -- the check is accepted, so it has room
-  checking-is : (r : Result (File × List ℕ)) → checking constraint answer values verdicts ≡ r → Checked (a .verdict) ≡ checked values verdicts r .reply → checking constraint answer values verdicts ≡ accepted (f, row)
+  checking-is : (r : Result (File × List ℕ)) → checking constraint answer values verdicts ≡ r → Checked (a .overall) ≡ checked values verdicts r .reply → checking constraint answer values verdicts ≡ accepted (f, row)
   checking-is (accepted (g, other)) e q =
       let s = checking-steps constraint answer values verdicts g other e in
       let z : accepted f ≡ accepted g = sym (a .file-is-read) ∙ s .file in
@@ -66,7 +66,7 @@ module _ (constraint answer values verdicts : List ℕ) (f : File) (row values�
   checking-is (refused x) e q = never (cc q)
 
   -- the tables that it left
-  left : _≡_ {A = CheckOutcome} (record { reply = Checked (a .verdict); values = values₁; verdicts = verdicts₁ }) (checked values verdicts (accepted (f, row)))
+  left : _≡_ {A = CheckOutcome} (record { reply = Checked (a .overall); values = values₁; verdicts = verdicts₁ }) (checked values verdicts (accepted (f, row)))
   left = a .call ∙ ap (checked values verdicts) (checking-is (checking constraint answer values verdicts) refl (ap (λ o. o .reply) (a .call)))
 
   check-state : State f row (drop (length (f .variables)) values) (drop (length (f .lines)) verdicts) values₁ verdicts₁
@@ -90,7 +90,7 @@ whole-run constraint answer values verdicts f row values₁ verdicts₁ cs repli
       values-are = w .state-is .values-are;
       verdicts-are = w .state-is .verdicts-are;
       overall-is = rw (w .state-is .verdicts-are) (ap overallOf (take-at (freshVerdicts f last) (drop m verdicts) m (verdicts-length (f .variables) last (f .lines))));
-      none-held = rw (w .replies-are) (none-held f row cs);
+      held-fits = rw (w .replies-are) (all-fit f row cs);
       touches-only = run-touches constraint f (a .file-is-read) r;
     }
 

@@ -1,4 +1,4 @@
--- What the change's own answers and tables mean, in terms of the definitions.
+-- What the results of this crate's functions and the tables mean, in terms of the definitions.
 use Prim.Native.Nat.{ℕ}
 use mathlib.Core.Bool.{cond}
 use mathlib.Core.List.{List}

@@ -25,13 +25,13 @@ use Rattle.moves.specs.Run.{Change, ChangeCall, frontOutcome, Run, theCh
 pub record AcceptedCheck (constraint answer values verdicts : List ℕ) (f : File) (row values₁ verdicts₁ : List ℕ) : Type 0 where
   pub file-is-read : readFile constraint ≡ accepted f
   pub answer-is-read : readAnswer (f .variables) answer ≡ accepted row
-  pub verdict : Overall
-  pub call : _≡_ {A = CheckOutcome} (record { reply = Checked verdict; values = values₁; verdicts = verdicts₁ }) (checkOutcome constraint answer values verdicts)
+  pub overall : Overall
+  pub call : _≡_ {A = CheckOutcome} (record { reply = Checked overall; values = values₁; verdicts = verdicts₁ }) (checkOutcome constraint answer values verdicts)
 
 -- a reply that is not 24
-abbrev pub NotHeld : ChangeReply → Type 0
-NotHeld (Changed e) = Unit {0}
-NotHeld (Refused r) = r .number ≡ heldDoesNotFit → ⊥
+abbrev pub HeldFits : ChangeReply → Type 0
+HeldFits (Changed e) = Unit {0}
+HeldFits (Refused r) = r .number ≡ heldDoesNotFit → ⊥
 
 -- whether line j of some names the variable i; behind the last line none does
 abbrev pub namedAt : ℕ → List Line → ℕ → Bool
@@ -59,7 +59,7 @@ pub record AsModel {calls : ℕ → ChangeCall} {constraint : List ℕ} {n : ℕ
   -- "and the overall verdict"
   pub overall-is : overallOf (take (length (f .lines)) verdicts′) ≡ overallOf (freshVerdicts f (modelRow f row cs))
   -- "24 can't arise"
-  pub none-held : Each NotHeld replies
+  pub held-fits : Each HeldFits replies
   -- "A change touches no value but its variable's, and no verdict of a line that doesn't name that variable. A refused one touches nothing": each call of the run
   pub touches-only : EachCall (λ c. TouchesOnly f (c .variable)) run
 

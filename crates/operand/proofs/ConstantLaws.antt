@@ -31,15 +31,15 @@ use Rattle.text.proofs.SeenLaws.{digit-bounds, letter-other}
 use Rattle.constraint.specs.declared.Operand.{Operand}
 use Rattle.constraint.specs.declared.Operand.the-variants.{Const}
 use Rattle.operand.specs.declared.OperandRead.the-variants.{Good, Bad}
-use Rattle.constraint.specs.Read.{at, readConstant}
+use Rattle.constraint.specs.Read.{inConstraint, readConstant}
 use Rattle.text.specs.Scan.{tokenAt}
 use Rattle.operand.specs.Internal.{operandResult, constantOf}
 
 -- the tests, whatever they say
 constant-split : (t : Token) (v k : ℕ) (numeral type width below : Bool) → operandResult t (constantOf (cond numeral (cond below (Value v) TooBig) Misspelt) (cond type (cond width (Width k) NoWidth) NoType)) ≡ (do
-  ensure (numeral && type) (at t misspelt)
-  ensure width (at t notAWidth)
-  ensure below (at t numberTooLarge)
+  ensure (numeral && type) (inConstraint t misspelt)
+  ensure width (inConstraint t notAWidth)
+  ensure below (inConstraint t numberTooLarge)
   accepted (Const (record { width = k; value = v % 2 ^ k })))
 constant-split t v k true true true true = refl
 constant-split t v k true true true false = refl
@@ -122,7 +122,7 @@ module _ (ds : List ℕ) (e : every isDigit ds ≡ true) where
           (rw (other-number maxDigits b s (first-fails isDigit b s r) c) at (constant-bytes t (ds ++ b ∷ s) q))
 
 -- a token that starts with a letter
-pub letter-misspelt : (t : Token) (b : ℕ) (s : List ℕ) → t .bytes ≡ b ∷ s → isLetter b ≡ true → refused (at t misspelt) ≡ readConstant t
+pub letter-misspelt : (t : Token) (b : ℕ) (s : List ℕ) → t .bytes ≡ b ∷ s → isLetter b ≡ true → refused (inConstraint t misspelt) ≡ readConstant t
 letter-misspelt t b s q e = let l = letter-other b e in rw (other-number [] every-none maxDigits b s (l .0) (l .1)) at (constant-bytes t (b ∷ s) q)
 
 -- the type of a constant tells where its token stops

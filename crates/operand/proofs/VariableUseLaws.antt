@@ -11,11 +11,11 @@ use Rattle.refusal.specs.Result.{accepted, refused}
 use Rattle.text.specs.Scan.{tokenAt}
 use Rattle.constraint.specs.declared.Operand.the-variants.{Var}
 use Rattle.constraint.specs.File.{Variable, variableNamed}
-use Rattle.constraint.specs.Read.{at, readVariable}
+use Rattle.constraint.specs.Read.{inConstraint, readVariable}
 
 -- a variable that is used, from a place to the end of a text
 module _ (xs : List Variable) (text : List ℕ) (start : ℕ) where
-  pub variable-long : maxNameBytes < length text - start → refused (at (tokenAt text start) overLimit) ≡ readVariable xs (tokenAt text start)
+  pub variable-long : maxNameBytes < length text - start → refused (inConstraint (tokenAt text start) overLimit) ≡ readVariable xs (tokenAt text start)
   unfolding readVariable
   variable-long h = rw (length-drop, lt-leb (length text - start) maxNameBytes h)
 
@@ -24,6 +24,6 @@ module _ (xs : List Variable) (text : List ℕ) (start : ℕ) where
     unfolding readVariable
     variable-found i e = rw (length-drop, le-leb (length text - start) maxNameBytes h, ← e)
 
-    pub variable-unknown : none ≡ variableNamed (drop start text) xs → refused (at (tokenAt text start) notDeclared) ≡ readVariable xs (tokenAt text start)
+    pub variable-unknown : none ≡ variableNamed (drop start text) xs → refused (inConstraint (tokenAt text start) notDeclared) ≡ readVariable xs (tokenAt text start)
     unfolding readVariable
     variable-unknown e = rw (length-drop, le-leb (length text - start) maxNameBytes h, ← e)

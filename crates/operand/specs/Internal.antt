@@ -18,13 +18,13 @@ use Rattle.operand.specs.declared.Taken.{Taken}
 use Rattle.operand.specs.declared.Taken.the-variants.{Got, Halt}
 use Rattle.operand.specs.declared.OperandRead.{OperandRead}
 use Rattle.operand.specs.declared.OperandRead.the-variants.{Good, Bad}
-use Rattle.constraint.specs.Read.{at}
+use Rattle.constraint.specs.Read.{inConstraint}
 use Rattle.text.specs.Scan.{tokenAt}
 
 -- an operand, or the number of the token's refusal
 abbrev pub operandResult : Token → OperandRead → Result Operand
 operandResult t (Good o) = accepted o
-operandResult t (Bad number) = refused (at t number)
+operandResult t (Bad number) = refused (inConstraint t number)
 
 -- a constant by its number and its type, as they were read
 abbrev pub constantOf : Number → TypeRead → OperandRead

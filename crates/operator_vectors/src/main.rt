@@ -5,7 +5,7 @@
 // operands, as in `10 08 08:0000000000000001 08:0000000000000080 00:0000000000000000`.
 ghost use Prim.Native.Nat.{_+_, _≤_};
 use arithmetic::Word;
-use arithmetic::numbering::numbered;
+use arithmetic::numbering::operator_numbered;
 use libc::STDIN_FILENO;
 use libc::STDOUT_FILENO;
 use operator::Applied;
@@ -26,8 +26,8 @@ fn word(line: &[u8; LINE], at: usize) -> Word
     }
 }
 
-fn print_answer(answer: Applied) {
-    match answer {
+fn print_applied(reply: Applied) {
+    match reply {
         Applied::Value(value) => {
             io::print_decimal(STDOUT_FILENO, value);
         }
@@ -54,7 +54,7 @@ fn run_vector() -> bool {
     let a = word(&line, 6);
     let b = word(&line, 26);
     let c = word(&line, 46);
-    print_answer(operator::apply(numbered(number), width, a, b, c));
+    print_applied(operator::apply(operator_numbered(number), width, a, b, c));
     true
 }
 

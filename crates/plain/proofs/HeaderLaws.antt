@@ -22,12 +22,12 @@ use Rattle.constraint.specs.File.{Variable, File, withVersion, withExpectation,
 use Rattle.constraint.specs.File.{withVariables}
 use Rattle.constraint.specs.Sound.{Each, SoundVariable, Distinct}
 use Rattle.constraint.specs.Read.{inHeader, versionOf, readVersion, expectationOf, readExpectation, readDeclarations}
-use Rattle.plain.specs.Says.{Said, saidBy, linesWith, wordsWith, isHeader, SpellsVariable, Pairwise}
-use Rattle.plain.proofs.LineLaws.{words, single-again, declarations-is, declarations-again, formLetter, saying}
+use Rattle.plain.specs.Says.{Said, saidBy, linesWith, tokensWith, isHeader, SpellsVariable, Pairwise}
+use Rattle.plain.proofs.LineLaws.{tokens, single-again, declarations-is, declarations-again, formLetter, saying}
 use Rattle.plain.proofs.KindLaws.{IsLine, LineKind, skipped, version, expectation, declarations, statement, other, line-kind}
 use Rattle.plain.proofs.OthersLaws.{IsAllowed, readAll, line-first, line-then, version-step, expectation-step, statement-then, Others, others-none, others-more, others-are, others-again}
 
--- ---- a thing that is said once at most: from a to b by lines of one word, none or one
+-- ---- a thing that is said once at most: from a to b by lines of one token, none or one
 pub data Once {A : Type 0} (parse : List ℕ → Option A) (a : Option A) (ls : List (List (List ℕ))) (b : Option A) : Type 0 where
   kept : ls ≡ [] → a ≡ b → Once parse a ls b
   set : (w : List ℕ) (x : A) → a ≡ none → ls ≡ (w ∷ []) ∷ [] → parse w ≡ some x → b ≡ some x → Once parse a ls b
@@ -73,16 +73,16 @@ pub record Header (a g : File) (hs : List Said) : Type 0 where
   pub expectation : Once expectationOf (a .expectation) (linesWith (code "e") hs) (g .expectation)
   pub some-declared : Each (λ ws. 1 ≤ length ws) (linesWith (code "d") hs)
   pub variables : List Variable
-  pub declared : Pairwise SpellsVariable (wordsWith (code "d") hs) variables
+  pub declared : Pairwise SpellsVariable (tokensWith (code "d") hs) variables
   pub all : g .variables ≡ a .variables ++ variables
   pub before : g .lines ≡ []
 
 header-none : (a : File) → a .lines ≡ [] → Header a a []
-unfolding every linesWith wordsWith flatMap
+unfolding every linesWith tokensWith flatMap
 header-none a e = record { letters = refl; version = kept refl refl; expectation = kept refl refl; some-declared = tt; variables = []; declared = tt; all = sym (append-nil (a .variables)); before = e }
 
 header-end : (a g : File) → a .lines ≡ [] → Header a g [] → a ≡ g
-unfolding linesWith wordsWith flatMap
+unfolding linesWith tokensWith flatMap
 header-end a g e h = go (h .variables) (h .declared) (h .all)
   where
     go : (xs : List Variable) → Pairwise SpellsVariable [] xs → g .variables ≡ a .variables ++ xs → a ≡ g
@@ -96,17 +96,17 @@ header-end a g e h = go (h .variables) (h .declared) (h .all)
 
 -- ---- a line of each letter in front of a header
 module _ (a g : File) (l : TextLine) (hs : List Said) where
-  header-version : (w : List ℕ) (e : Edition) → a .version ≡ none → words (arguments l) ≡ w ∷ [] → versionOf w ≡ some e → Header (withVersion a e) g hs → Header a g (saying (code "v") l ∷ hs)
-  unfolding every isHeader linesWith wordsWith flatMap
-  header-version w e n o p h = record { letters = h .letters; version = once-first versionOf (g .version) (a .version) w e (words (arguments l)) (linesWith (code "v") hs) n o p (h .version); expectation = h .expectation; some-declared = h .some-declared; variables = h .variables; declared = h .declared; all = h .all; before = h .before }
+  header-version : (w : List ℕ) (e : Edition) → a .version ≡ none → tokens (arguments l) ≡ w ∷ [] → versionOf w ≡ some e → Header (withVersion a e) g hs → Header a g (saying (code "v") l ∷ hs)
+  unfolding every isHeader linesWith tokensWith flatMap
+  header-version w e n o p h = record { letters = h .letters; version = once-first versionOf (g .version) (a .version) w e (tokens (arguments l)) (linesWith (code "v") hs) n o p (h .version); expectation = h .expectation; some-declared = h .some-declared; variables = h .variables; declared = h .declared; all = h .all; before = h .before }
 
-  header-expectation : (w : List ℕ) (n : ℕ) → a .expectation ≡ none → words (arguments l) ≡ w ∷ [] → expectationOf w ≡ some n → Header (withExpectation a n) g hs → Header a g (saying (code "e") l ∷ hs)
-  unfolding every isHeader linesWith wordsWith flatMap
-  header-expectation w n m o p h = record { letters = h .letters; version = h .version; expectation = once-first expectationOf (g .expectation) (a .expectation) w n (words (arguments l)) (linesWith (code "e") hs) m o p (h .expectation); some-declared = h .some-declared; variables = h .variables; declared = h .declared; all = h .all; before = h .before }
+  header-expectation : (w : List ℕ) (n : ℕ) → a .expectation ≡ none → tokens (arguments l) ≡ w ∷ [] → expectationOf w ≡ some n → Header (withExpectation a n) g hs → Header a g (saying (code "e") l ∷ hs)
+  unfolding every isHeader linesWith tokensWith flatMap
+  header-expectation w n m o p h = record { letters = h .letters; version = h .version; expectation = once-first expectationOf (g .expectation) (a .expectation) w n (tokens (arguments l)) (linesWith (code "e") hs) m o p (h .expectation); some-declared = h .some-declared; variables = h .variables; declared = h .declared; all = h .all; before = h .before }
 
-  header-declarations : (xs : List Variable) → 1 ≤ length (words (arguments l)) → Pairwise SpellsVariable (words (arguments l)) xs → Header (withVariables a (a .variables ++ xs)) g hs → Header a g (saying (code "d") l ∷ hs)
-  unfolding every isHeader linesWith wordsWith flatMap
-  header-declarations xs n p h = record { letters = h .letters; version = h .version; expectation = h .expectation; some-declared = (n, h .some-declared); variables = xs ++ h .variables; declared = pairs-append SpellsVariable (words (arguments l)) (wordsWith (code "d") hs) xs (h .variables) p (h .declared); all = h .all ∙ append-assoc (a .variables) xs (h .variables); before = h .before }
+  header-declarations : (xs : List Variable) → 1 ≤ length (tokens (arguments l)) → Pairwise SpellsVariable (tokens (arguments l)) xs → Header (withVariables a (a .variables ++ xs)) g hs → Header a g (saying (code "d") l ∷ hs)
+  unfolding every isHeader linesWith tokensWith flatMap
+  header-declarations xs n p h = record { letters = h .letters; version = h .version; expectation = h .expectation; some-declared = (n, h .some-declared); variables = xs ++ h .variables; declared = pairs-append SpellsVariable (tokens (arguments l)) (tokensWith (code "d") hs) xs (h .variables) p (h .declared); all = h .all ∙ append-assoc (a .variables) xs (h .variables); before = h .before }
 
 -- ---- the lines of a file, from a to f
 pub record Whole (a f : File) (ss : List Said) : Type 0 where
@@ -134,13 +134,13 @@ whole-are (l ∷ ls) a f z e = go (line-kind l) (whole-are ls)
         let q = version-step a (p .0) l (p .1) in
         let n = not-there (a .version) (and-true (inHeader a) (not (isThere (a .version))) (q .is-allowed) .1) in
         let w = ih (withVersion a (q .value)) f z (subst (λ (b : File). readAll b ls ≡ accepted f) (q .file-is) (p .2)) in
-        rw (k .said-is) (whole-more a (withVersion a (q .value)) f (saying (code "v") l) (flatMap saidBy ls) w (header-version a (w .middle) l (w .header) (q .word) (q .value) n (q .one) (q .parsed)))
+        rw (k .said-is) (whole-more a (withVersion a (q .value)) f (saying (code "v") l) (flatMap saidBy ls) w (header-version a (w .middle) l (w .header) (q .token) (q .value) n (q .one) (q .parsed)))
     go (expectation k) ih =
         let p = line-then l ls a f k e in
         let q = expectation-step a (p .0) l (p .1) in
         let n = not-there (a .expectation) (and-true (inHeader a) (not (isThere (a .expectation))) (q .is-allowed) .1) in
         let w = ih (withExpectation a (q .value)) f z (subst (λ (b : File). readAll b ls ≡ accepted f) (q .file-is) (p .2)) in
-        rw (k .said-is) (whole-more a (withExpectation a (q .value)) f (saying (code "e") l) (flatMap saidBy ls) w (header-expectation a (w .middle) l (w .header) (q .word) (q .value) n (q .one) (q .parsed)))
+        rw (k .said-is) (whole-more a (withExpectation a (q .value)) f (saying (code "e") l) (flatMap saidBy ls) w (header-expectation a (w .middle) l (w .header) (q .token) (q .value) n (q .one) (q .parsed)))
     go (declarations k) ih =
         let p = line-then l ls a f k e in
         let q = declarations-is a l .holds (p .0) (p .1) in
@@ -189,9 +189,9 @@ record Goes (read : File → Result File) (a g : File) (hs : List Said) : Type 0
 
 module _ (a g : File) (l : TextLine) (hs : List Said) (z : a .lines ≡ []) where
   version-goes : Header a g (saying (code "v") l ∷ hs) → Goes (λ b. readVersion b l) a g hs
-  unfolding every isHeader linesWith wordsWith flatMap readVersion
+  unfolding every isHeader linesWith tokensWith flatMap readVersion
   version-goes h =
-      let p = once-then versionOf (g .version) (a .version) (words (arguments l)) (linesWith (code "v") hs) (h .version) in
+      let p = once-then versionOf (g .version) (a .version) (tokens (arguments l)) (linesWith (code "v") hs) (h .version) in
       record {
         next = withVersion a (p .1);
         read-is = single-again (inHeader a && not (isThere (a .version))) versionOf _ (withVersion a) l (p .0) (p .1) (allowed-once a (a .version) z (p .2)) (p .3) (p .4);
@@ -200,9 +200,9 @@ module _ (a g : File) (l : TextLine) (hs : List Said) (z : a .lines ≡ []) wher
       }
 
   expectation-goes : Header a g (saying (code "e") l ∷ hs) → Goes (λ b. readExpectation b l) a g hs
-  unfolding every isHeader linesWith wordsWith flatMap readExpectation
+  unfolding every isHeader linesWith tokensWith flatMap readExpectation
   expectation-goes h =
-      let p = once-then expectationOf (g .expectation) (a .expectation) (words (arguments l)) (linesWith (code "e") hs) (h .expectation) in
+      let p = once-then expectationOf (g .expectation) (a .expectation) (tokens (arguments l)) (linesWith (code "e") hs) (h .expectation) in
       record {
         next = withExpectation a (p .1);
         read-is = single-again (inHeader a && not (isThere (a .expectation))) expectationOf _ (withExpectation a) l (p .0) (p .1) (allowed-once a (a .expectation) z (p .2)) (p .3) (p .4);
@@ -211,9 +211,9 @@ module _ (a g : File) (l : TextLine) (hs : List Said) (z : a .lines ≡ []) wher
       }
 
   declarations-goes : Fine (g .variables) → Header a g (saying (code "d") l ∷ hs) → Goes (λ b. readDeclarations b l) a g hs
-  unfolding every isHeader linesWith wordsWith flatMap
+  unfolding every isHeader linesWith tokensWith flatMap
   declarations-goes f h =
-      let p = parts SpellsVariable (words (arguments l)) (wordsWith (code "d") hs) (h .variables) (h .declared) in
+      let p = parts SpellsVariable (tokens (arguments l)) (tokensWith (code "d") hs) (h .variables) (h .declared) in
       let xs = p .front in
       let all : g .variables ≡ a .variables ++ xs ++ p .back = h .all ∙ ap (λ (us : List Variable). a .variables ++ us) (p .are) ∙ sym (append-assoc (a .variables) xs (p .back)) in
       let s : Each (SoundVariable (editionOf a)) (a .variables ++ xs ++ p .back) = subst (Each (SoundVariable (editionOf a))) all (f .sound (editionOf a)) in

@@ -13,8 +13,8 @@ use Rattle.text.specs.Lines.{TextLine, leads}
 use Rattle.constraint.specs.declared.Form.{Form}
 use Rattle.constraint.specs.declared.Form.the-variants.{WithOutput, Predicate}
 use Rattle.constraint.specs.File.{File}
-use Rattle.constraint.specs.Read.{atStart, readVersion, readExpectation, readDeclarations, readStatement, addLine, kindOf, readAs, readLine}
-use Rattle.plain.specs.Says.{Said, leadingLetter, isSkipped, wordsOf, saidBy}
+use Rattle.constraint.specs.Read.{atConstraintLine, readVersion, readExpectation, readDeclarations, readStatement, addLine, kindOf, readAs, readLine}
+use Rattle.plain.specs.Says.{Said, leadingLetter, isSkipped, tokensBehind, saidBy}
 use Rattle.plain.proofs.LineLaws.{formLetter, saying}
 
 -- a line says this; and so it is read, once its bytes are allowed
@@ -28,11 +28,11 @@ pub data LineKind (l : TextLine) : Type 0 where
   expectation : IsLine l (saying (code "e") l ∷ []) (λ a. readExpectation a l) → LineKind l
   declarations : IsLine l (saying (code "d") l ∷ []) (λ a. readDeclarations a l) → LineKind l
   statement : (form : Form) → IsLine l (saying (formLetter form) l ∷ []) (λ a. addLine a (readStatement form a l)) → LineKind l
-  other : IsLine l (saying 0 l ∷ []) (λ a. refused (atStart l unknownLine)) → LineKind l
+  other : IsLine l (saying 0 l ∷ []) (λ a. refused (atConstraintLine l unknownLine)) → LineKind l
 
 -- every line is of one kind
 pub line-kind : (l : TextLine) → LineKind l
-unfolding saidBy isSkipped leadingLetter wordsOf readLine kindOf readAs
+unfolding saidBy isSkipped leadingLetter tokensBehind readLine kindOf readAs
 line-kind l = go (every isSpace (l .bytes)) refl (eqb (getD (l .bytes) 0 0) (code "#")) refl (leads (code "v") (l .bytes)) refl (leads (code "e") (l .bytes)) refl (leads (code "d") (l .bytes)) refl (leads (code "c") (l .bytes)) refl (leads (code "p") (l .bytes)) refl
   where
     go : (blank : Bool) → every isSpace (l .bytes) ≡ blank → (hash : Bool) → eqb (getD (l .bytes) 0 0) (code "#") ≡ hash → (v : Bool) → leads (code "v") (l .bytes) ≡ v → (e : Bool) → leads (code "e") (l .bytes) ≡ e → (d : Bool) → leads (code "d") (l .bytes) ≡ d → (c : Bool) → leads (code "c") (l .bytes) ≡ c → (p : Bool) → leads (code "p") (l .bytes) ≡ p → LineKind l

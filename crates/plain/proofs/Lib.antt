@@ -1,5 +1,5 @@
 -- Laws that belong to no one function.
-pub mod WordLaws
+pub mod TokenLaws
 pub mod OperatorLaws
 pub mod LineLaws
 pub mod KindLaws

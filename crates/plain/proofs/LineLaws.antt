@@ -1,4 +1,4 @@
--- A line of each letter is read as what its words spell, and as nothing else. Assumes nothing.
+-- A line of each letter is read as what its tokens spell, and as nothing else. Assumes nothing.
 use Prim.Native.Nat.{ℕ, zero, suc, _≤_, _<_}
 use Prim.Native.Char.{code}
 use mathlib.Core.Path.{_≡_, refl, sym, ap, subst, _∙_}
@@ -36,23 +36,23 @@ use Rattle.constraint.specs.Read.{inHeader, readSingle, declareAll, readDeclara
 use Rattle.arithmetic.proofs.RuleLaws.{arity-bounds}
 use Rattle.plain.specs.Says.{SpellsVariable, SpellsOperand, SpellsOperands, SpellsOperation, SpellsLine, with-output, predicate, Said, Pairwise}
 use Rattle.plain.proofs.OperatorLaws.{operator-is, operator-again}
-use Rattle.plain.proofs.WordLaws.{declare-is, declare-again, operand-is, operand-again}
+use Rattle.plain.proofs.TokenLaws.{declare-is, declare-again, operand-is, operand-again}
 
 -- the bytes of tokens
-abbrev pub words : List Token → List (List ℕ)
-words = map (λ t. t .bytes)
+abbrev pub tokens : List Token → List (List ℕ)
+tokens = map (λ t. t .bytes)
 
-words-length : (ts : List Token) → length (words ts) ≡ length ts
-words-length [] = refl
-words-length (t ∷ ts) = ap suc (words-length ts)
+tokens-length : (ts : List Token) → length (tokens ts) ≡ length ts
+tokens-length [] = refl
+tokens-length (t ∷ ts) = ap suc (tokens-length ts)
 
-first-word : (ts : List Token) (w : List ℕ) (ws : List (List ℕ)) → words ts ≡ w ∷ ws → (t : Token) × (rest : List Token) × (ts ≡ t ∷ rest) × (t .bytes ≡ w) × (words rest ≡ ws)
-first-word [] w ws e = absurd (nil≢cons e)
-first-word (t ∷ ts) w ws e = (t, ts, refl, head-eq-of-cons-eq e, tail-eq-of-cons-eq e)
+first-token : (ts : List Token) (w : List ℕ) (ws : List (List ℕ)) → tokens ts ≡ w ∷ ws → (t : Token) × (rest : List Token) × (ts ≡ t ∷ rest) × (t .bytes ≡ w) × (tokens rest ≡ ws)
+first-token [] w ws e = absurd (nil≢cons e)
+first-token (t ∷ ts) w ws e = (t, ts, refl, head-eq-of-cons-eq e, tail-eq-of-cons-eq e)
 
-no-word : (ts : List Token) → words ts ≡ [] → ts ≡ []
-no-word [] e = refl
-no-word (t ∷ ts) e = absurd (cons≢nil e)
+no-token : (ts : List Token) → tokens ts ≡ [] → ts ≡ []
+no-token [] e = refl
+no-token (t ∷ ts) e = absurd (cons≢nil e)
 
 -- ---- a token, and no more tokens, then the next step
 module _ {B : Type 0} {Q : B → Type 0} where
@@ -64,30 +64,30 @@ module _ {B : Type 0} {Q : B → Type 0} where
   yields-last [] n = n refl
   yields-last (t ∷ ts) n = yields-refused
 
--- ---- a line with one word
+-- ---- a line with one token
 pub record SingleIs {A : Type 0} (allowed : Bool) (parse : List ℕ → Option A) (add : A → File) (ws : List (List ℕ)) (b : File) : Type 0 where
   pub is-allowed : allowed ≡ true
-  pub word : List ℕ
+  pub token : List ℕ
   pub value : A
-  pub one : ws ≡ word ∷ []
-  pub parsed : parse word ≡ some value
+  pub one : ws ≡ token ∷ []
+  pub parsed : parse token ≡ some value
   pub file-is : b ≡ add value
 
 module _ {A : Type 0} (allowed : Bool) (parse : List ℕ → Option A) (wrong : ℕ) (add : A → File) (l : TextLine) where
-  pub single-is : Yields (SingleIs allowed parse add (words (arguments l))) (readSingle allowed parse wrong add l)
+  pub single-is : Yields (SingleIs allowed parse add (tokens (arguments l))) (readSingle allowed parse wrong add l)
   unfolding readSingle
   single-is =
       yields-ensure allowed _ λ h.
       yields-first l (arguments l) λ p q.
       yields-given (parse (p .0 .bytes)) _ λ v k.
       yields-last (p .1) λ z.
-      yields-accepted (record { is-allowed = h; word = p .0 .bytes; value = v; one = ap words q ∙ ap (λ (ts : List Token). p .0 .bytes ∷ words ts) z; parsed = k; file-is = refl })
+      yields-accepted (record { is-allowed = h; token = p .0 .bytes; value = v; one = ap tokens q ∙ ap (λ (ts : List Token). p .0 .bytes ∷ tokens ts) z; parsed = k; file-is = refl })
 
-  pub single-again : (w : List ℕ) (v : A) → allowed ≡ true → words (arguments l) ≡ w ∷ [] → parse w ≡ some v → readSingle allowed parse wrong add l ≡ accepted (add v)
+  pub single-again : (w : List ℕ) (v : A) → allowed ≡ true → tokens (arguments l) ≡ w ∷ [] → parse w ≡ some v → readSingle allowed parse wrong add l ≡ accepted (add v)
   unfolding readSingle
   single-again w v h o p =
-      let q = first-word (arguments l) w [] o in
-      rw (h, q .2, q .3, p, no-word (q .1) (q .4))
+      let q = first-token (arguments l) w [] o in
+      rw (h, q .2, q .3, p, no-token (q .1) (q .4))
 
 -- ---- a line of declarations
 pub record DeclaresIs (a : File) (ws : List (List ℕ)) (b : File) : Type 0 where
@@ -95,19 +95,19 @@ pub record DeclaresIs (a : File) (ws : List (List ℕ)) (b : File) : Type 0 wher
   pub spelt : Pairwise SpellsVariable ws variables
   pub file-is : b ≡ withVariables a (a .variables ++ variables)
 
-declare-all-is : (ts : List Token) (a : File) → Yields (DeclaresIs a (words ts)) (declareAll a ts)
+declare-all-is : (ts : List Token) (a : File) → Yields (DeclaresIs a (tokens ts)) (declareAll a ts)
 unfolding declareAll
 declare-all-is [] a = yields-accepted (record { variables = []; spelt = tt; file-is = sym (ap (withVariables a) (append-nil (a .variables))) })
 declare-all-is (t ∷ ts) a =
     yields-bind (declare-is (editionOf a) (a .variables) t) λ x s.
     yields-also (λ b k. record { variables = x ∷ k .variables; spelt = (s, k .spelt); file-is = k .file-is ∙ ap (withVariables a) (append-snoc (a .variables) x (k .variables)) }) (declare-all-is ts (withVariable a x))
 
-pub declarations-is : (a : File) (l : TextLine) → Yields (λ b. (1 ≤ length (words (arguments l))) × DeclaresIs a (words (arguments l)) b) (readDeclarations a l)
+pub declarations-is : (a : File) (l : TextLine) → Yields (λ b. (1 ≤ length (tokens (arguments l))) × DeclaresIs a (tokens (arguments l)) b) (readDeclarations a l)
 unfolding readDeclarations
 declarations-is a l =
     yields-ensure (inHeader a) _ λ _.
     yields-first l (arguments l) λ p q.
-    let n : 1 ≤ length (words (p .0 ∷ p .1)) = omega arith in
+    let n : 1 ≤ length (tokens (p .0 ∷ p .1)) = omega arith in
     yields-also (λ b k. (rw q n, rw q k)) (declare-all-is (p .0 ∷ p .1) a)
 
 -- a name that no earlier variable has
@@ -124,7 +124,7 @@ new-here : (x : Variable) (xs ys : List Variable) → Distinct (xs ++ (x ∷ ys)
 unfolding variableNamed
 new-here x xs ys d = first-new x xs ys 0 d
 
-declare-all-again : (ts : List Token) (a : File) (xs : List Variable) → Pairwise SpellsVariable (words ts) xs → Each (SoundVariable (editionOf a)) xs → Distinct (a .variables ++ xs) → length (a .variables ++ xs) ≤ maxVariables → declareAll a ts ≡ accepted (withVariables a (a .variables ++ xs))
+declare-all-again : (ts : List Token) (a : File) (xs : List Variable) → Pairwise SpellsVariable (tokens ts) xs → Each (SoundVariable (editionOf a)) xs → Distinct (a .variables ++ xs) → length (a .variables ++ xs) ≤ maxVariables → declareAll a ts ≡ accepted (withVariables a (a .variables ++ xs))
 unfolding declareAll
 declare-all-again [] a [] p s d h = rw append-nil
 declare-all-again [] a (x ∷ xs) p s d h = absurd p
@@ -134,11 +134,11 @@ declare-all-again (t ∷ ts) a (x ∷ xs) p s d h =
     rw (declare-again (editionOf a) (a .variables) x t (p .0) (s .0) (new-here x (a .variables) xs d) (omega (arith, length-append (a .variables) (x ∷ xs))))
     (declare-all-again ts (withVariable a x) xs (p .1) (s .1) (rw z d) (rw z h) ∙ rw z)
 
-pub declarations-again : (a : File) (l : TextLine) (xs : List Variable) → inHeader a ≡ true → 1 ≤ length (words (arguments l)) → Pairwise SpellsVariable (words (arguments l)) xs → Each (SoundVariable (editionOf a)) xs → Distinct (a .variables ++ xs) → length (a .variables ++ xs) ≤ maxVariables → readDeclarations a l ≡ accepted (withVariables a (a .variables ++ xs))
+pub declarations-again : (a : File) (l : TextLine) (xs : List Variable) → inHeader a ≡ true → 1 ≤ length (tokens (arguments l)) → Pairwise SpellsVariable (tokens (arguments l)) xs → Each (SoundVariable (editionOf a)) xs → Distinct (a .variables ++ xs) → length (a .variables ++ xs) ≤ maxVariables → readDeclarations a l ≡ accepted (withVariables a (a .variables ++ xs))
 unfolding readDeclarations
 declarations-again a l xs e n p s d h = go (arguments l) refl n p
   where
-    go : (ts : List Token) → arguments l ≡ ts → 1 ≤ length (words ts) → Pairwise SpellsVariable (words ts) xs → readDeclarations a l ≡ accepted (withVariables a (a .variables ++ xs))
+    go : (ts : List Token) → arguments l ≡ ts → 1 ≤ length (tokens ts) → Pairwise SpellsVariable (tokens ts) xs → readDeclarations a l ≡ accepted (withVariables a (a .variables ++ xs))
     go [] q n p = absurd (omega arith)
     go (t ∷ ts) q n p = rw (e, q) (declare-all-again (t ∷ ts) a xs p s d h)
 
@@ -148,21 +148,21 @@ three os = os .first ∷ os .second ∷ os .third ∷ []
 
 record OperandsAre (xs : List Variable) (n : ℕ) (ts : List Token) (p : Operands × List Token) : Type 0 where
   taken : List (List ℕ)
-  are : words ts ≡ taken ++ words (p .1)
+  are : tokens ts ≡ taken ++ tokens (p .1)
   count : length taken ≡ n
   spelt : SpellsOperands xs taken (three (p .0))
 
 record OperandIs (xs : List Variable) (ts : List Token) (p : Operand × List Token) : Type 0 where
-  word : List ℕ
-  are : words ts ≡ word ∷ words (p .1)
-  spelt : SpellsOperand xs word (p .0)
+  token : List ℕ
+  are : tokens ts ≡ token ∷ tokens (p .1)
+  spelt : SpellsOperand xs token (p .0)
 
 next-is : (xs : List Variable) (l : TextLine) (ts : List Token) → Yields (OperandIs xs ts) (nextOperand xs l ts)
 unfolding nextOperand
 next-is xs l ts =
     yields-first l ts λ p q.
     yields-bind (operand-is xs (p .0)) λ o s.
-    yields-accepted (record { word = p .0 .bytes; are = ap words q; spelt = s })
+    yields-accepted (record { token = p .0 .bytes; are = ap tokens q; spelt = s })
 
 shorter : (xs : List Variable) (ws : List (List ℕ)) (a b c : Operand) → length ws < maxOperands → SpellsOperands xs ws (a ∷ b ∷ c ∷ []) → SpellsOperands xs ws (a ∷ b ∷ [])
 shorter xs [] a b c h p = (p .0, (p .1 .0, tt))
@@ -177,8 +177,8 @@ operands-are xs l (suc n) ts h =
     yields-bind (next-is xs l ts) λ p q.
     yields-bind (operands-are xs l n (p .1) (omega arith)) λ r k.
     yields-accepted (record {
-      taken = q .word ∷ k .taken;
-      are = q .are ∙ ap (λ (ws : List (List ℕ)). q .word ∷ ws) (k .are);
+      taken = q .token ∷ k .taken;
+      are = q .are ∙ ap (λ (ws : List (List ℕ)). q .token ∷ ws) (k .are);
       count = ap suc (k .count);
       spelt = (q .spelt, shorter xs (k .taken) (r .0 .first) (r .0 .second) (r .0 .third) (omega (arith, k .count)) (k .spelt));
     })
@@ -197,7 +197,7 @@ module _ (e : Edition) (xs : List Variable) (sound : Each (SoundVariable e) xs) 
   unfolding nextOperand
   next-again o t ts h = rw (operand-again e xs sound distinct o t h)
 
-  operands-again : (os : List Operand) (ts : List Token) → SpellsOperands xs (words ts) os → readOperands xs l (length ts) ts ≡ accepted (packed os, [])
+  operands-again : (os : List Operand) (ts : List Token) → SpellsOperands xs (tokens ts) os → readOperands xs l (length ts) ts ≡ accepted (packed os, [])
   unfolding readOperands
   operands-again [] [] h = refl
   operands-again [] (t ∷ ts) h = absurd h
@@ -205,7 +205,7 @@ module _ (e : Edition) (xs : List Variable) (sound : Each (SoundVariable e) xs) 
   operands-again (o ∷ os) (t ∷ ts) h = rw (next-again o t ts (h .0), operands-again os ts (h .1))
 
 -- ---- an operator and its operands
-operation-is : (f : File) (l : TextLine) (output : Operand) (ts : List Token) → Yields (λ line. (line .output ≡ output) × SpellsOperation (editionOf f) (f .variables) (words ts) line) (readOperation f l output ts)
+operation-is : (f : File) (l : TextLine) (output : Operand) (ts : List Token) → Yields (λ line. (line .output ≡ output) × SpellsOperation (editionOf f) (f .variables) (tokens ts) line) (readOperation f l output ts)
 unfolding readOperation
 operation-is f l output ts =
     yields-first l ts λ p q.
@@ -217,24 +217,24 @@ operation-is f l output ts =
     yields-accepted (
       refl,
       record {
-        operator = p .0 .bytes;
-        operands = k .taken;
-        are = ap words q ∙ ap (λ (ws : List (List ℕ)). p .0 .bytes ∷ ws) (k .are ∙ ap (λ (us : List Token). k .taken ++ words us) z ∙ append-nil (k .taken));
-        named = operator-is (editionOf f) (p .0 .bytes) op o;
+        operator-token = p .0 .bytes;
+        operand-tokens = k .taken;
+        are = ap tokens q ∙ ap (λ (ws : List (List ℕ)). p .0 .bytes ∷ ws) (k .are ∙ ap (λ (us : List Token). k .taken ++ tokens us) z ∙ append-nil (k .taken));
+        operator-spelt = operator-is (editionOf f) (p .0 .bytes) op o;
         count = k .count;
-        spelt = k .spelt;
-        typed = w;
+        operands-spelt = k .spelt;
+        type-rules = w;
       },
     )
 
-operation-again : (f : File) (l : TextLine) → Each (SoundVariable (editionOf f)) (f .variables) → Distinct (f .variables) → (line : Line) (ts : List Token) → SpellsOperation (editionOf f) (f .variables) (words ts) line → readOperation f l (line .output) ts ≡ accepted line
+operation-again : (f : File) (l : TextLine) → Each (SoundVariable (editionOf f)) (f .variables) → Distinct (f .variables) → (line : Line) (ts : List Token) → SpellsOperation (editionOf f) (f .variables) (tokens ts) line → readOperation f l (line .output) ts ≡ accepted line
 unfolding readOperation
 operation-again f l sound distinct line ts h =
-    let q = first-word ts (h .operator) (h .operands) (h .are) in
-    let n : length (q .1) ≡ arity (line .operator) = sym (words-length (q .1)) ∙ ap length (q .4) ∙ h .count in
-    let s : SpellsOperands (f .variables) (words (q .1)) (three (line .operands)) = rw (q .4) (h .spelt) in
+    let q = first-token ts (h .operator-token) (h .operand-tokens) (h .are) in
+    let n : length (q .1) ≡ arity (line .operator) = sym (tokens-length (q .1)) ∙ ap length (q .4) ∙ h .count in
+    let s : SpellsOperands (f .variables) (tokens (q .1)) (three (line .operands)) = rw (q .4) (h .operands-spelt) in
     let r : readOperands (f .variables) l (arity (line .operator)) (q .1) ≡ accepted (line .operands, []) = subst (λ k. readOperands (f .variables) l k (q .1) ≡ accepted (line .operands, [])) n (operands-again (editionOf f) (f .variables) sound distinct l (three (line .operands)) (q .1) s) in
-    rw (q .2, q .3, operator-again (editionOf f) (h .operator) (line .operator) (h .named), r, h .typed)
+    rw (q .2, q .3, operator-again (editionOf f) (h .operator-token) (line .operator) (h .operator-spelt), r, h .type-rules)
 
 -- ---- a `c` or `p` line
 abbrev pub formLetter : Form → ℕ
@@ -242,14 +242,14 @@ formLetter WithOutput = code "c"
 formLetter Predicate = code "p"
 
 abbrev pub saying : ℕ → TextLine → Said
-saying letter l = record { letter = letter; words = words (arguments l) }
+saying letter l = record { letter = letter; tokens = tokens (arguments l) }
 
 pub statement-is : (form : Form) (f : File) (l : TextLine) → Yields (SpellsLine (editionOf f) (f .variables) (saying (formLetter form) l)) (readStatement form f l)
 unfolding readStatement nextOutput
 statement-is WithOutput f l =
     yields-ensure (ltb (length (f .lines)) maxLines) _ λ _.
     yields-bind (next-is (f .variables) l (arguments l)) λ p q.
-    yields-also (λ line k. with-output (q .word) (words (p .1)) refl (q .are) (rw (k .0) (q .spelt)) (k .1)) (operation-is f l (p .0) (p .1))
+    yields-also (λ line k. with-output (q .token) (tokens (p .1)) refl (q .are) (rw (k .0) (q .spelt)) (k .1)) (operation-is f l (p .0) (p .1))
 statement-is Predicate f l =
     yields-ensure (ltb (length (f .lines)) maxLines) _ λ _.
     yields-also (λ line k. predicate refl (k .0) (k .1)) (operation-is f l Absent (arguments l))
@@ -258,7 +258,7 @@ module _ (f : File) (l : TextLine) (sound : Each (SoundVariable (editionOf f)) (
   pub statement-again : (form : Form) → SpellsLine (editionOf f) (f .variables) (saying (formLetter form) l) line → readStatement form f l ≡ accepted line
   unfolding readStatement nextOutput
   statement-again WithOutput (with-output output others e w o h) =
-      let q = first-word (arguments l) output others w in
+      let q = first-token (arguments l) output others w in
       let n : nextOperand (f .variables) l (arguments l) ≡ accepted (line .output, q .1) = ap (nextOperand (f .variables) l) (q .2) ∙ next-again (editionOf f) (f .variables) sound distinct l (line .output) (q .0) (q .1) (rw (q .3) o) in
       rw (lt-ltb (length (f .lines)) maxLines room, n) (operation-again f l sound distinct line (q .1) (rw (q .4) h))
   statement-again WithOutput (predicate e o h) = absurd (omega arith)

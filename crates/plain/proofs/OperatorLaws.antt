@@ -8,7 +8,7 @@ use mathlib.Core.Option.{some}
 use borrow.Author.Tests.{not-true}
 use Rattle.edition.specs.declared.Edition.{Edition}
 use Rattle.refusal.specs.Lists.{every}
-use Rattle.refusal.specs.Words.{ascii}
+use Rattle.refusal.specs.SubjectWords.{ascii}
 use Rattle.refusal.proofs.ResultLaws.{never}
 use Rattle.refusal.proofs.BoolLaws.{and-true}
 use Rattle.arithmetic.specs.declared.Operator.{Operator}
@@ -27,21 +27,21 @@ unfolding spellings bitwise predicates arithmetic shiftsAndCasts every same
 all-unlike e = refl
 
 -- what is found is an entry
-record Entry (word : List ℕ) (op : Operator) (xs : List (String × Operator)) : Type 0 where
+record Entry (token : List ℕ) (op : Operator) (xs : List (String × Operator)) : Type 0 where
   text : String
   earlier : List (String × Operator)
   later : List (String × Operator)
-  listed : xs ≡ earlier ++ (text, op) ∷ later
-  is : word ≡ ascii text
+  in-table : xs ≡ earlier ++ (text, op) ∷ later
+  is : token ≡ ascii text
 
-found : (word : List ℕ) (op : Operator) (xs : List (String × Operator)) → operatorSpelt word xs ≡ some op → Entry word op xs
+found : (token : List ℕ) (op : Operator) (xs : List (String × Operator)) → operatorSpelt token xs ≡ some op → Entry token op xs
 unfolding operatorSpelt
-found word op [] e = never (cc e)
-found word op (x ∷ xs) e = go (same (ascii (x .0)) word) refl (found word op xs) e
+found token op [] e = never (cc e)
+found token op (x ∷ xs) e = go (same (ascii (x .0)) token) refl (found token op xs) e
   where
-    go : (t : Bool) → same (ascii (x .0)) word ≡ t → (operatorSpelt word xs ≡ some op → Entry word op xs) → cond t (some (x .1)) (operatorSpelt word xs) ≡ some op → Entry word op (x ∷ xs)
-    go true p ih q = let z : x .1 ≡ op = cc q in record { text = x .0; earlier = []; later = xs; listed = ap (λ (o : Operator). (x .0, o) ∷ xs) z; is = sym (same-true (ascii (x .0)) word p) }
-    go false p ih q = let h = ih q in record { text = h .text; earlier = x ∷ h .earlier; later = h .later; listed = ap (λ (ys : List (String × Operator)). x ∷ ys) (h .listed); is = h .is }
+    go : (t : Bool) → same (ascii (x .0)) token ≡ t → (operatorSpelt token xs ≡ some op → Entry token op xs) → cond t (some (x .1)) (operatorSpelt token xs) ≡ some op → Entry token op (x ∷ xs)
+    go true p ih q = let z : x .1 ≡ op = cc q in record { text = x .0; earlier = []; later = xs; in-table = ap (λ (o : Operator). (x .0, o) ∷ xs) z; is = sym (same-true (ascii (x .0)) token p) }
+    go false p ih q = let h = ih q in record { text = h .text; earlier = x ∷ h .earlier; later = h .later; in-table = ap (λ (ys : List (String × Operator)). x ∷ ys) (h .in-table); is = h .is }
 
 -- an entry whose spelling no earlier one has is found
 every-here : {A : Type 0} (test : A → Bool) (xs : List A) (x : A) (ys : List A) → every test (xs ++ x ∷ ys) ≡ true → test x ≡ true
@@ -56,11 +56,11 @@ find text op (x ∷ xs) ys u =
     let p = and-true (every (λ y. not (same (ascii (x .0)) (ascii (y .0)))) (xs ++ (text, op) ∷ ys)) (unlike (xs ++ (text, op) ∷ ys)) u in
     rw (not-true (same (ascii (x .0)) (ascii text)) (every-here (λ y. not (same (ascii (x .0)) (ascii (y .0)))) xs (text, op) ys (p .0))) (find text op xs ys (p .1))
 
-module _ (e : Edition) (word : List ℕ) (op : Operator) where
-  pub operator-is : operatorNamed e word ≡ some op → SpellsOperator e word op
-  operator-is h = let p = found word op (spellings e) h in record { text = p .text; earlier = p .earlier; later = p .later; listed = p .listed; spelt = p .is }
+module _ (e : Edition) (token : List ℕ) (op : Operator) where
+  pub operator-is : operatorNamed e token ≡ some op → SpellsOperator e token op
+  operator-is h = let p = found token op (spellings e) h in record { text = p .text; earlier = p .earlier; later = p .later; in-table = p .in-table; spelt = p .is }
 
-  pub operator-again : SpellsOperator e word op → operatorNamed e word ≡ some op
+  pub operator-again : SpellsOperator e token op → operatorNamed e token ≡ some op
   operator-again h =
-      let u = subst (λ (xs : List (String × Operator)). unlike xs ≡ true) (h .listed) (all-unlike e) in
-      rw (h .spelt, h .listed) (find (h .text) op (h .earlier) (h .later) u)
+      let u = subst (λ (xs : List (String × Operator)). unlike xs ≡ true) (h .in-table) (all-unlike e) in
+      rw (h .spelt, h .in-table) (find (h .text) op (h .earlier) (h .later) u)

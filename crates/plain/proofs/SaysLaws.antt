@@ -24,16 +24,16 @@ use Rattle.constraint.specs.Sound.{Each, SoundVariable, SoundFile}
 use Rattle.constraint.specs.Read.{versionOf, expectationOf, readLine, readFile}
 use Rattle.constraint.proofs.EachLaws.{each-map}
 use Rattle.constraint.proofs.SoundLaws.{accepted-is-sound}
-use Rattle.plain.specs.Says.{said, linesWith, wordsWith, SaysVersion, SaysExpectation, no-line, says-0, says-1, SpellsVariable, SpellsLine, Pairwise, Says}
+use Rattle.plain.specs.Says.{said, linesWith, tokensWith, SaysVersion, SaysExpectation, no-line, says-0, says-1, SpellsVariable, SpellsLine, Pairwise, Says}
 use Rattle.plain.specs.Claims.{ReadsExactly, RefusesExactly}
-use Rattle.plain.proofs.WordLaws.{version-is, version-again, expectation-is, zero-again, one-again}
+use Rattle.plain.proofs.TokenLaws.{version-is, version-again, expectation-is, zero-again, one-again}
 use Rattle.plain.proofs.OthersLaws.{IsAllowed, lines-allowed, Others}
 use Rattle.plain.proofs.HeaderLaws.{Once, kept, set, Header, Whole, whole-are, Fine, whole-again}
 
 -- ---- the `v` line and the `e` line
 one-version : (vs : List (List (List ℕ))) (v : Option Edition) → isThere v ≡ true → Once versionOf none vs v → SaysVersion vs v
 one-version vs v t (kept e k) = never (cc (sym t ∙ ap isThere (sym k)))
-one-version vs v t (set w x n e p k) = record { word = w; edition = x; one = e; spelt = version-is w x p; is = k }
+one-version vs v t (set w x n e p k) = record { token = w; edition = x; one = e; spelt = version-is w x p; says-edition = k }
 
 one-expectation : (es : List (List (List ℕ))) (n : Option ℕ) → Once expectationOf none es n → SaysExpectation es n
 one-expectation es n (kept e k) = no-line e (sym k)
@@ -47,7 +47,7 @@ expectation-once es n (says-1 e k) = set _ 1 refl e one-again k
 -- the editions have the same spellings
 any-edition : (e d : Edition) (x : Variable) → SoundVariable e x → SoundVariable d x
 unfolding spellings
-any-edition e d x h = record { spelt = h .spelt; named = h .named; short = h .short; free = h .free; width = h .width }
+any-edition e d x h = record { spelt = h .spelt; not-empty = h .not-empty; short = h .short; free = h .free; width = h .width }
 
 module _ (bytes : List ℕ) (f : File) where
   -- what lines that are read say
@@ -69,7 +69,7 @@ module _ (bytes : List ℕ) (f : File) where
         version = one-version _ (f .version) there (subst (Once versionOf none (linesWith (code "v") (w .header))) (sym (o .version)) (h .version));
         expectation = one-expectation _ (f .expectation) (subst (Once expectationOf none (linesWith (code "e") (w .header))) (sym (o .expectation)) (h .expectation));
         some-declared = h .some-declared;
-        declared = subst (Pairwise SpellsVariable (wordsWith (code "d") (w .header))) xs (h .declared);
+        declared = subst (Pairwise SpellsVariable (tokensWith (code "d") (w .header))) xs (h .declared);
         variables = s .variables;
         distinct = s .distinct;
         few-variables = s .few-variables;
@@ -98,7 +98,7 @@ module _ (bytes : List ℕ) (f : File) where
       let g : File = record { version = f .version; expectation = f .expectation; variables = f .variables; lines = [] } in
       let head : Header emptyFile g (h .header) = record {
         letters = h .header-letters;
-        version = set (h .version .word) (h .version .edition) refl (h .version .one) (version-again (h .version .word) (h .version .edition) (h .version .spelt)) (h .version .is);
+        version = set (h .version .token) (h .version .edition) refl (h .version .one) (version-again (h .version .token) (h .version .edition) (h .version .spelt)) (h .version .says-edition);
         expectation = expectation-once _ (f .expectation) (h .expectation);
         some-declared = h .some-declared;
         variables = f .variables;
@@ -108,7 +108,7 @@ module _ (bytes : List ℕ) (f : File) where
       } in
       let tail : Others g f (h .others) = record { version = refl; expectation = refl; variables = refl; lines = f .lines; spelt = h .spelt; all = refl } in
       let fine : Fine (f .variables) = record { sound = λ d. each-map (any-edition (editionOf f) d) (f .variables) (h .variables); distinct = h .distinct; few = h .few-variables } in
-      let there : isThere (f .version) ≡ true = ap isThere (h .version .is) in
+      let there : isThere (f .version) ≡ true = ap isThere (h .version .says-edition) in
       rw (le-leb (length bytes) maxFileBytes (h .short), whole-again g f (h .others) fine tail (h .few-lines) (textLines bytes) emptyFile (h .header) (h .allowed) refl (h .in-order) head, there)
 
   -- what is refused says nothing, and what says nothing is refused

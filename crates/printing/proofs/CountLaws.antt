@@ -4,7 +4,7 @@ use mathlib.Core.Path.{_≡_}
 use mathlib.Core.List.{List}
 use lib.ListN.{length, length-append}
 use Rattle.printing.specs.Digits.{digits, counted}
-use Rattle.printing.specs.Places.{Put}
+use Rattle.printing.specs.Room.{Put}
 use Rattle.printing.proofs.PlaceLaws.{put-then}
 
 module _ (word : List ℕ) (n : ℕ) where

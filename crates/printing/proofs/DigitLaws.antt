@@ -10,7 +10,7 @@ use lib.Dec.{ltb, lit<}
 use borrow.Author.Tests.{lt-ltb, le-ltb}
 use Rattle.text.specs.Spelling.{maxDigits, numberBound}
 use Rattle.printing.specs.Digits.{digit, digitsIn, digits}
-use Rattle.printing.specs.Places.{Put}
+use Rattle.printing.specs.Room.{Put}
 use Rattle.printing.proofs.PlaceLaws.{put-then}
 
 -- the clause, as a law: `digits` unfolded would be written out 20 deep

@@ -7,7 +7,7 @@ use native.Mathlib.Numerals.{add-one}
 use native.Mathlib.Omega.{arith}
 use lib.ListN.{length, getD, drop, set, length-append, length-set}
 use lib.Seq.{sets, length-sets, sets-eq, paste, paste-zero, paste-suc, take-length}
-use Rattle.printing.specs.Places.{placed, Put}
+use Rattle.printing.specs.Room.{placed, Put}
 
 -- a text put is its bytes stored one by one
 placed-sets : (text room : List ℕ) (at : ℕ) → at + length text ≤ length room → placed room at text ≡ sets room at text

@@ -8,10 +8,10 @@ use Rattle.refusal.specs.declared.Label.{Label}
 use Rattle.refusal.specs.declared.Refusal.{Refusal}
 use Rattle.refusal.specs.declared.Subject.{Subject}
 use Rattle.refusal.specs.declared.Subject.the-variants.{Constraint, Answer, Values, Verdicts, Output, Call}
-use Rattle.refusal.specs.Words.{ascii, subjectWord, label}
+use Rattle.refusal.specs.SubjectWords.{ascii, subjectWord, label}
 use Rattle.text.specs.Spelling.{maxDigits}
 use Rattle.printing.specs.Digits.{digits, counted}
-use Rattle.printing.specs.Places.{Put}
+use Rattle.printing.specs.Room.{Put}
 use Rattle.printing.specs.RefusalText.{refusalText}
 use Rattle.printing.proofs.PlaceLaws.{put-then}
 use Rattle.printing.proofs.DigitLaws.{digits-count}

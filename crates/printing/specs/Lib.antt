@@ -1,3 +1,3 @@
 pub mod Digits
-pub mod Places
+pub mod Room
 pub mod RefusalText

@@ -2,7 +2,7 @@
 use Prim.Native.Nat.{ℕ}
 use mathlib.Core.List.{List, _++_}
 use Rattle.refusal.specs.declared.Refusal.{Refusal}
-use Rattle.refusal.specs.Words.{ascii, subjectWord}
+use Rattle.refusal.specs.SubjectWords.{ascii, subjectWord}
 use Rattle.printing.specs.Digits.{counted}
 
 -- as in `refused 15 constraint 32`: its number, what it speaks of, and the position there

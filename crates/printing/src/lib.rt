@@ -4,7 +4,7 @@ ghost use mathlib.Core.List.{[], _∷_};
 ghost use Prim.Native.Nat.{_+_, _<_, _≤_};
 ghost use lib.ListN.{length};
 ghost use Rattle.printing.specs.Digits.{digits, counted};
-ghost use Rattle.printing.specs.Places.{Put};
+ghost use Rattle.printing.specs.Room.{Put};
 
 pub mod refusals;
 

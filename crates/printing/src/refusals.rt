@@ -6,8 +6,8 @@ use refusal::Refusal;
 use refusal::Subject;
 ghost use Prim.Native.Nat.{_+_, _≤_};
 ghost use lib.ListN.{length};
-ghost use Rattle.refusal.specs.Words.{subjectWord};
-ghost use Rattle.printing.specs.Places.{Put};
+ghost use Rattle.refusal.specs.SubjectWords.{subjectWord};
+ghost use Rattle.printing.specs.Room.{Put};
 ghost use Rattle.printing.specs.RefusalText.{refusalText};
 
 fn put_subject(subject: Subject, room: &mut [u8], at: usize) -> usize

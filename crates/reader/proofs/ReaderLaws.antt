@@ -32,7 +32,7 @@ use Rattle.store.specs.Tables.{tabulate, variablesIn, linesIn}
 use Rattle.constraint.specs.Read.{kindOf, readAs, readLine, readFile}
 use Rattle.reader.specs.Inspect.{inspected}
 use Rattle.statement.specs.Internal.{lineResult}
-use Rattle.reader.specs.Internal.{HasRoom}
+use Rattle.reader.specs.Internal.{HasRoom, faultyAt}
 use Rattle.store.specs.Progress.{nothingRead, storedFile}
 use Rattle.store.specs.Tables.{Store}
 use Rattle.store.proofs.TableLaws.{lines-length, storable-line}
@@ -56,7 +56,7 @@ has-room table p (HasLine l) xs e y =
 has-room table p (NoLine r) xs e y = tt
 
 -- whether a byte stands at n that does not end a line
-module _ (f : List ℕ) (n : ℕ) {r : Bool} (h : r ≡ (ltb n (length f) && not (eqb (getD f n 0) 10))) where
+module _ (f : List ℕ) (n : ℕ) {r : Bool} (h : r ≡ faultyAt f n) where
   pub faulty-is : r ≡ true → (n < length f) × (getD f n 0 ≡ 10 → ⊥)
   faulty-is e =
       let p = and-true (ltb n (length f)) (not (eqb (getD f n 0) 10)) (sym h ∙ e) in

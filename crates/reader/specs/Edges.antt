@@ -6,7 +6,7 @@ use mathlib.Core.List.{List, [], _∷_, map}
 use Rattle.refusal.specs.declared.Subject.the-variants.{Constraint}
 use Rattle.refusal.specs.Numbers.{misplacedLine, misspelt, notAWidth, numberTooLarge, unknownOperator, typeRuleBroken}
 use Rattle.refusal.specs.Result.{accepted, refusal}
-use Rattle.refusal.specs.Words.{ascii}
+use Rattle.refusal.specs.SubjectWords.{ascii}
 use Rattle.constraint.specs.declared.Operand.the-variants.{Const}
 use Rattle.reader.specs.declared.Inspected.{Inspected}
 use Rattle.reader.specs.declared.Inspected.the-variants.{Sound, Refused}

@@ -22,15 +22,14 @@ use text::scan::allowed;
 use text::scan::leads;
 use text::scan::next_line;
 ghost use mathlib.Core.Path.{_≡_};
-ghost use mathlib.Core.Bool.{true, not, _&&_};
+ghost use mathlib.Core.Bool.{true};
 ghost use mathlib.Core.List.{List};
 ghost use Prim.Native.Nat.{ℕ, _<_, _≤_};
-ghost use lib.Dec.{eqb, ltb};
-ghost use lib.ListN.{length, getD, take, drop};
+ghost use lib.ListN.{length, take, drop};
 ghost use Rattle.edition.specs.Edition.{maxLines};
 ghost use Rattle.refusal.specs.Lists.{every};
 ghost use Rattle.refusal.specs.declared.Subject.the-variants.{Constraint as TheConstraint};
-ghost use Rattle.text.specs.Lines.{textLines as linesOf};
+ghost use Rattle.text.specs.Lines.{textLines};
 ghost use Rattle.text.specs.Reading.{readAnyLine, readLines};
 ghost use Rattle.text.specs.declared.Class.the-variants.{Allowed};
 ghost use Rattle.text.specs.Scan.{isOf};
@@ -40,7 +39,7 @@ ghost use Rattle.constraint.specs.Read.{kindOf, addLine, readLine, readFile};
 ghost use Rattle.constraint.specs.Sound.{Distinct};
 ghost use Rattle.store.specs.Tables.{byteValues, storedVariables, storeOf, StoreSized};
 ghost use Rattle.statement.specs.Internal.{lineResult};
-ghost use Rattle.reader.specs.Internal.{HasRoom};
+ghost use Rattle.reader.specs.Internal.{HasRoom, faultyAt};
 ghost use Rattle.store.specs.Progress.{nothingRead, withLineRead, storedFile, stepResult, InTables, StepInTables};
 ghost use Rattle.text.specs.Scan.{lineAt};
 
@@ -163,7 +162,7 @@ fn read_any_line(
 
 // Whether a byte stands at `stop` that does not end a line.
 fn faulty(file: &[u8], stop: usize) -> bool
-    ensures { λ r. ⌜ r ≡ (ltb stop (length (now (file .entry))) && not (eqb (getD (now (file .entry)) stop 0) 10)) ⌝ }
+    ensures { λ r. ⌜ r ≡ faultyAt (now (file .entry)) stop ⌝ }
 {
     if stop < file.len() {
         file[stop] != b'\n'
@@ -194,7 +193,7 @@ fn read_lines(
     lines: &mut [u64; TABLE_WORDS],
 ) -> Step
     requires { ⌜ StoreSized (storeOf (now starts) (now lens) (now widths) (now lines)) × (length (now guesses) ≡ byteValues) ⌝ }
-    ensures { λ r. ⌜ (stepResult (now (file .entry)) (storeOf (now (starts .exit)) (now (lens .exit)) (now (widths .exit)) (now (lines .exit))) r ≡ readLines TheConstraint readLine emptyFile (linesOf (now (file .entry)))) × StoreSized (storeOf (now (starts .exit)) (now (lens .exit)) (now (widths .exit)) (now (lines .exit))) × (length (now (guesses .exit)) ≡ byteValues) × StepInTables r ⌝ }
+    ensures { λ r. ⌜ (stepResult (now (file .entry)) (storeOf (now (starts .exit)) (now (lens .exit)) (now (widths .exit)) (now (lines .exit))) r ≡ readLines TheConstraint readLine emptyFile (textLines (now (file .entry)))) × StoreSized (storeOf (now (starts .exit)) (now (lens .exit)) (now (widths .exit)) (now (lines .exit))) × (length (now (guesses .exit)) ≡ byteValues) × StepInTables r ⌝ }
 {
     let mut p = nothing();
     let mut i = 0;

@@ -1,6 +1,6 @@
 // A refusal: its number, what it speaks of, and the position there.
 ghost use mathlib.Core.Path.{_≡_};
-ghost use Rattle.refusal.specs.Words.{subjectWord, label};
+ghost use Rattle.refusal.specs.SubjectWords.{subjectWord, label};
 
 // What a refusal speaks of.
 pub enum Subject {

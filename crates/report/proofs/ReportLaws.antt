@@ -6,15 +6,15 @@ use native.Mathlib.Nat.{zero-add}
 use native.Mathlib.Omega.{arith}
 use lib.ListN.{length, drop, length-append}
 use Rattle.refusal.specs.declared.Refusal.{Refusal}
-use Rattle.refusal.specs.Words.{ascii}
+use Rattle.refusal.specs.SubjectWords.{ascii}
 use Rattle.judge.specs.declared.Overall.{Overall}
 use Rattle.judge.specs.declared.Overall.the-variants.{Satisfied, Violated, Disregarded}
 use Rattle.tables.specs.declared.Tally.{Tally}
 use Rattle.tables.specs.declared.Report.{Report}
-use Rattle.tables.specs.declared.Report.the-variants.{Judged, Refused}
+use Rattle.tables.specs.declared.Report.the-variants.{Tallied, Refused}
 use Rattle.text.specs.Spelling.{maxDigits}
 use Rattle.printing.specs.Digits.{digits, counted}
-use Rattle.printing.specs.Places.{Put}
+use Rattle.printing.specs.Room.{Put}
 use Rattle.printing.specs.RefusalText.{refusalText}
 use Rattle.printing.proofs.PlaceLaws.{put-then, placed-front}
 use Rattle.printing.proofs.DigitLaws.{digits-count}
@@ -49,17 +49,17 @@ module _ (t : Tally) where
 
 -- ---- two lines
 module _ (o : Overall) (t : Tally) where
-  pub judged-length : length (reportText (Judged o t)) ≡ length (overallText o) + 1 + length (tallyText t) + 1
+  pub tallied-length : length (reportText (Tallied o t)) ≡ length (overallText o) + 1 + length (tallyText t) + 1
   unfolding reportText
-  judged-length = simp length-append (omega arith)
+  tallied-length = simp length-append (omega arith)
 
-  pub put-judged : {room : List ℕ} → length (reportText (Judged o t)) ≤ length room
+  pub put-tallied : {room : List ℕ} → length (reportText (Tallied o t)) ≤ length room
       → {end₁ end₂ end₃ end₄ : ℕ} {room₁ room₂ room₃ room₄ : List ℕ}
       → Put (overallText o) room 0 end₁ room₁ → Put (ascii "\n") room₁ end₁ end₂ room₂ → Put (tallyText t) room₂ end₂ end₃ room₃ → Put (ascii "\n") room₃ end₃ end₄ room₄
-      → Put (reportText (Judged o t)) room 0 end₄ room₄
+      → Put (reportText (Tallied o t)) room 0 end₄ room₄
   unfolding reportText
-  put-judged h p q r s =
-      let l = judged-length in
+  put-tallied h p q r s =
+      let l = tallied-length in
       put-then (omega arith) (put-then (simp length-append (omega arith)) (put-then (simp length-append (omega arith)) p q) r) s
 
 -- ---- the one line of a refusal
@@ -80,7 +80,7 @@ abbrev maxReportBytes : ℕ
 maxReportBytes = 49 + 5 * maxDigits
 
 report-bound : (r : Report) → length (reportText r) ≤ maxReportBytes
-report-bound (Judged o t) = omega (arith, judged-length o t, overall-bound o, tally-bound t)
+report-bound (Tallied o t) = omega (arith, tallied-length o t, overall-bound o, tally-bound t)
 report-bound (Refused x) = omega (arith, refused-length x, refusal-bound x)
 
 pub report-fits : (r : Report) (room : ℕ) → room ≡ maxReportBytes → length (reportText r) ≤ room

@@ -1,12 +1,12 @@
 -- The text of a report.
 use Prim.Native.Nat.{ℕ}
 use mathlib.Core.List.{List, _++_}
-use Rattle.refusal.specs.Words.{ascii}
+use Rattle.refusal.specs.SubjectWords.{ascii}
 use Rattle.judge.specs.declared.Overall.{Overall}
 use Rattle.judge.specs.declared.Overall.the-variants.{Satisfied, Violated, Disregarded}
 use Rattle.tables.specs.declared.Tally.{Tally}
 use Rattle.tables.specs.declared.Report.{Report}
-use Rattle.tables.specs.declared.Report.the-variants.{Judged, Refused}
+use Rattle.tables.specs.declared.Report.the-variants.{Tallied, Refused}
 use Rattle.printing.specs.Digits.{counted}
 use Rattle.printing.specs.RefusalText.{refusalText}
 
@@ -26,5 +26,5 @@ tallyText t =
 
 -- two lines; or the one line of a refusal
 unfoldable pub reportText : Report → List ℕ
-reportText (Judged overall tally) = overallText overall ++ ascii "\n" ++ tallyText tally ++ ascii "\n"
+reportText (Tallied overall tally) = overallText overall ++ ascii "\n" ++ tallyText tally ++ ascii "\n"
 reportText (Refused r) = refusalText r ++ ascii "\n"

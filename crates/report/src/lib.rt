@@ -2,8 +2,8 @@
 ghost use Prim.Native.Nat.{_+_, _≤_};
 ghost use mathlib.Core.Path.{_≡_};
 ghost use lib.ListN.{length};
-ghost use Rattle.printing.specs.Places.{Put};
-ghost use Rattle.tables.specs.declared.Report.the-variants.{Judged as TheJudged, Refused as TheRefused};
+ghost use Rattle.printing.specs.Room.{Put};
+ghost use Rattle.tables.specs.declared.Report.the-variants.{Tallied as TheTallied, Refused as TheRefused};
 ghost use Rattle.tables.specs.Report.{reportOutcome};
 ghost use Rattle.report.specs.Text.{overallText, tallyText, reportText};
 ghost use Rattle.report.specs.Write.{reportWritten};
@@ -44,9 +44,9 @@ fn put_tally(tally: Tally, room: &mut [u8], at: usize) -> usize
     put_count(b" disregarded ", tally.disregarded as u64, room, violated)
 }
 
-fn put_judged(overall: Overall, tally: Tally, room: &mut [u8]) -> usize
-    requires { ⌜ length (reportText (TheJudged overall tally)) ≤ length (now room) ⌝ }
-    ensures { λ r. ⌜ Put (reportText (TheJudged overall tally)) (now (room .entry)) 0 r (now (room .exit)) ⌝ }
+fn put_tallied(overall: Overall, tally: Tally, room: &mut [u8]) -> usize
+    requires { ⌜ length (reportText (TheTallied overall tally)) ≤ length (now room) ⌝ }
+    ensures { λ r. ⌜ Put (reportText (TheTallied overall tally)) (now (room .entry)) 0 r (now (room .exit)) ⌝ }
 {
     let first = put_overall(overall, room, 0);
     let second = put_byte(b'\n', room, first);
@@ -67,7 +67,7 @@ pub fn write_report(report: Report, room: &mut [u8; REPORT_BYTES]) -> usize
     ensures { λ r. ⌜ record { end = r; room = now (room .exit) } ≡ reportWritten (now (room .entry)) report ⌝ }
 {
     match report {
-        Report::Judged(overall, tally) => put_judged(overall, tally, room),
+        Report::Tallied(overall, tally) => put_tallied(overall, tally, room),
         Report::Refused(refusal) => put_refused(refusal, room),
     }
 }

@@ -1,7 +1,7 @@
 // Cases of two files and two tables, as standard input has them: a line of 38 bytes, and the bytes of the files.
 // The line has a letter and four numbers of eight hexadecimal digits: the lengths of the constraint file and of the answer, and the entries of the value table and of the verdict table.
 use super::hex;
-use super::load;
+use super::next_bytes;
 ghost use Rattle.reporting.specs.CaseRooms.{Roomy};
 
 // Room for a file, and for one that is longer than a file may be.
@@ -53,7 +53,7 @@ pub fn next_case() -> NextCase
     ensures { λ r. ⌜ Roomy r ⌝ }
 {
     let mut header = [0u8; HEADER];
-    if !load(&mut header) {
+    if !next_bytes(&mut header) {
         return NextCase::End;
     }
     let s = read_header(&header);
@@ -73,9 +73,9 @@ pub fn next_case() -> NextCase
 }
 
 // Fills the bytes of both parts of a case from standard input; false where it is too short.
-pub fn load_both(first: &mut [u8], second: &mut [u8]) -> bool {
-    if !load(first) {
+pub fn next_both(first: &mut [u8], second: &mut [u8]) -> bool {
+    if !next_bytes(first) {
         return false;
     }
-    load(second)
+    next_bytes(second)
 }

@@ -52,7 +52,7 @@ pub fn print_refusal(refusal: Refusal) {
 }
 
 // Fills the bytes from standard input; false where it is too short.
-pub fn load(bytes: &mut [u8]) -> bool {
+pub fn next_bytes(bytes: &mut [u8]) -> bool {
     io::read_full(STDIN_FILENO, bytes) == bytes.len()
 }
 

@@ -11,7 +11,7 @@ use Rattle.judge.specs.declared.Overall.the-variants.{Satisfied, Violated, Disr
 use Rattle.judge.specs.Judge.{freshVerdicts, overallOf, overallNumber}
 use Rattle.tables.specs.declared.Tally.{Tally}
 use Rattle.tables.specs.declared.Report.{Report}
-use Rattle.tables.specs.declared.Report.the-variants.{Judged, Refused}
+use Rattle.tables.specs.declared.Report.the-variants.{Tallied, Refused}
 use Rattle.tables.specs.Report.{answering, reported, reportOutcome}
 use Rattle.tables.proofs.ReportedLaws.{reported-exactly}
 use Rattle.spear.specs.Code.{codeOf, ZeroExactly, IsCode, of-verdict, of-refusal, CodesAre}
@@ -24,14 +24,14 @@ zero-satisfied Satisfied e = refl
 zero-satisfied (Violated n) e = let z : ⊥ = omega arith in absurd z
 zero-satisfied (Disregarded n) e = let z : ⊥ = omega arith in absurd z
 
-zero-judged : (r : Report) → codeOf r ≡ 0 → (t : Tally) × (r ≡ Judged Satisfied t)
-zero-judged (Judged o t) e = (t, ap (λ o. Judged o t) (zero-satisfied o e))
-zero-judged (Refused x) e = let z : ⊥ = omega arith in absurd z
+zero-tallied : (r : Report) → codeOf r ≡ 0 → (t : Tally) × (r ≡ Tallied Satisfied t)
+zero-tallied (Tallied o t) e = (t, ap (λ o. Tallied o t) (zero-satisfied o e))
+zero-tallied (Refused x) e = let z : ⊥ = omega arith in absurd z
 
 pub zero-exactly : ZeroExactly
 zero-exactly constraint answer =
     let both = reported-exactly constraint answer in
-    (λ e. both .0 (zero-judged (reportOutcome constraint answer) e), λ s. ap codeOf (both .1 s .1))
+    (λ e. both .0 (zero-tallied (reportOutcome constraint answer) e), λ s. ap codeOf (both .1 s .1))
 
 -- ---- no other number
 module _ (constraint answer : List ℕ) where

@@ -6,13 +6,13 @@ use mathlib.Core.List.{List}
 use Rattle.edition.specs.Edition.{maxVariables, maxLines}
 use Rattle.judge.specs.Judge.{overallNumber}
 use Rattle.tables.specs.declared.Report.{Report}
-use Rattle.tables.specs.declared.Report.the-variants.{Judged, Refused}
+use Rattle.tables.specs.declared.Report.the-variants.{Tallied, Refused}
 use Rattle.tables.specs.Report.{reportOutcome}
 use Rattle.tables.specs.Claims.{Satisfies}
 
 -- the number of a report
 abbrev pub codeOf : Report → ℕ
-codeOf (Judged o t) = overallNumber o
+codeOf (Tallied o t) = overallNumber o
 codeOf (Refused r) = 100 + r .number
 
 -- SPEAR_CHECK: the contract of the call

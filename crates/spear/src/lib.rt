@@ -22,7 +22,7 @@ fn code_of(report: Report) -> u32
     ensures { λ r. ⌜ r ≡ codeOf report ⌝ }
 {
     match report {
-        Report::Judged(overall, _) => overall_number(overall) as u32,
+        Report::Tallied(overall, _) => overall_number(overall) as u32,
         Report::Refused(refusal) => REFUSED + refusal.number as u32,
     }
 }

@@ -28,7 +28,7 @@ const AT_40: u64 = 1 << 40;
 const AT_56: u64 = 1 << 56;
 
 // The kind of a refusal.
-const REFUSED: u64 = 3;
+const KIND_REFUSED: u64 = 3;
 
 fn verdict_word(kind: u64, line: u64, named: u64, altered: u64, bits: u64) -> u64
     requires { ⌜ kind < 256 ⌝ }
@@ -44,10 +44,10 @@ fn verdict_word(kind: u64, line: u64, named: u64, altered: u64, bits: u64) -> u6
 fn refusal_word(number: u64, subject: u64, position: u64) -> u64
     ensures { λ r. ⌜ r ≡ refusalWord number subject position ⌝ }
 {
-    REFUSED + number % BYTE * AT_8 + subject % BYTE * AT_16 + position % POSITION * AT_24
+    KIND_REFUSED + number % BYTE * AT_8 + subject % BYTE * AT_16 + position % POSITION * AT_24
 }
 
-fn line(overall: Overall) -> u64
+fn deciding_line(overall: Overall) -> u64
     ensures { λ r. ⌜ r ≡ decidingLine overall ⌝ }
 {
     match overall {
@@ -57,7 +57,7 @@ fn line(overall: Overall) -> u64
     }
 }
 
-fn number(subject: Subject) -> u64
+fn subject_number(subject: Subject) -> u64
     ensures { λ r. ⌜ r ≡ subjectNumber subject ⌝ }
 {
     match subject {
@@ -76,7 +76,7 @@ fn pack_refusal(refusal: Refusal) -> u64
     let subject = refusal.subject;
     refusal_word(
         refusal.number as u64,
-        number(subject),
+        subject_number(subject),
         refusal.position as u64,
     )
 }
@@ -85,7 +85,7 @@ pub(crate) fn pack_check(reply: CheckReply) -> u64
     ensures { λ r. ⌜ r ≡ packCheck reply ⌝ }
 {
     match reply {
-        CheckReply::Checked(o) => verdict_word(overall_number(o) as u64, line(o), 0, 0, 0),
+        CheckReply::Checked(o) => verdict_word(overall_number(o) as u64, deciding_line(o), 0, 0, 0),
         CheckReply::Refused(r) => pack_refusal(r),
     }
 }
@@ -98,7 +98,7 @@ pub(crate) fn pack_change(reply: ChangeReply) -> u64
             let o = e.overall;
             verdict_word(
                 overall_number(o) as u64,
-                line(o),
+                deciding_line(o),
                 e.named as u64,
                 e.altered as u64,
                 e.bits,

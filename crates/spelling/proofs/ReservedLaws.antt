@@ -7,7 +7,7 @@ use mathlib.Core.List.{List, [], _∷_}
 use mathlib.Core.Option.{some}
 use Rattle.edition.specs.declared.Edition.{Edition}
 use Rattle.refusal.specs.Lists.{every, isThere}
-use Rattle.refusal.specs.Words.{ascii}
+use Rattle.refusal.specs.SubjectWords.{ascii}
 use Rattle.refusal.proofs.ResultLaws.{never}
 use Rattle.arithmetic.specs.declared.Operator.{Operator}
 use Rattle.text.specs.Bytes.{same, isLetter, isDigit, isNameByte}

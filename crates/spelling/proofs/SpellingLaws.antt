@@ -6,13 +6,13 @@ use mathlib.Core.Bool.{Bool, true, false, cond}
 use mathlib.Core.List.{List, [], _∷_, _++_}
 use mathlib.Core.Option.{Option, none, some, orElse}
 use Rattle.edition.specs.declared.Edition.{Edition}
-use Rattle.refusal.specs.Words.{ascii}
+use Rattle.refusal.specs.SubjectWords.{ascii}
 use Rattle.arithmetic.specs.declared.Operator.{Operator}
 use Rattle.text.specs.Bytes.{same}
 use Rattle.spelling.specs.declared.Spelt.{Spelt}
 use Rattle.spelling.specs.declared.Spelt.the-variants.{Is, Unknown}
 use Rattle.spelling.specs.Operators.{bitwise, predicates, arithmetic, shiftsAndCasts, spellings, operatorSpelt, operatorNamed}
-use Rattle.spelling.specs.Internal.{spelling, earlier, ifWord}
+use Rattle.spelling.specs.Internal.{spelling, orSpelt, ifWord}
 
 infixl 20 _then_
 -- of the spellings xs those in front of `rest` are tested, after others that gave `found`, and r is what they all gave
@@ -20,7 +20,7 @@ pub record Tested (s : List ℕ) (found : Spelt) (xs rest : List (String × Oper
   pub agrees : orElse (spelling found) (operatorSpelt s xs) ≡ orElse (spelling r) (operatorSpelt s rest)
 
 -- with one test more, and with none
-one-more : (s : List ℕ) (w : String) (op : Operator) (rest : List (String × Operator)) (r : Spelt) (b : Bool) → same (ascii w) s ≡ b → orElse (spelling r) (operatorSpelt s ((w, op) ∷ rest)) ≡ orElse (spelling (earlier r (cond b (Is op) Unknown))) (operatorSpelt s rest)
+one-more : (s : List ℕ) (w : String) (op : Operator) (rest : List (String × Operator)) (r : Spelt) (b : Bool) → same (ascii w) s ≡ b → orElse (spelling r) (operatorSpelt s ((w, op) ∷ rest)) ≡ orElse (spelling (orSpelt r (cond b (Is op) Unknown))) (operatorSpelt s rest)
 unfolding operatorSpelt orElse
 one-more s w op rest (Is found) b e = refl
 one-more s w op rest Unknown true e = rw e
@@ -38,7 +38,7 @@ untested s found xs = record { agrees = refl }
 module _ {s : List ℕ} {found : Spelt} {xs : List (String × Operator)} where
   -- after one more
   module _ {w : String} {op : Operator} {rest : List (String × Operator)} {r r₁ : Spelt} where
-    pub _then_ : Tested s found xs ((w, op) ∷ rest) r → r₁ ≡ earlier r (ifWord (ascii w) s op) → Tested s found xs rest r₁
+    pub _then_ : Tested s found xs ((w, op) ∷ rest) r → r₁ ≡ orSpelt r (ifWord (ascii w) s op) → Tested s found xs rest r₁
     _then_ t e = record { agrees = t .agrees ∙ one-more s w op rest r (same (ascii w) s) refl ∙ ap (λ (x : Spelt). orElse (spelling x) (operatorSpelt s rest)) (sym e) }
 
   -- after the last

@@ -1,4 +1,4 @@
--- What the code's answers mean.
+-- What the results of this crate's functions mean, in terms of the definitions.
 use Prim.Native.Nat.{ℕ}
 use mathlib.Core.Bool.{cond}
 use mathlib.Core.List.{List}
@@ -14,9 +14,9 @@ spelling (Is op) = some op
 spelling Unknown = none
 
 -- the first of two that is there
-abbrev pub earlier : Spelt → Spelt → Spelt
-earlier (Is op) b = Is op
-earlier Unknown b = b
+abbrev pub orSpelt : Spelt → Spelt → Spelt
+orSpelt (Is op) b = Is op
+orSpelt Unknown b = b
 
 -- the operator, if a text is its word
 abbrev pub ifWord : List ℕ → List ℕ → Operator → Spelt

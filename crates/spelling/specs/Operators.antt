@@ -14,7 +14,7 @@ use Rattle.arithmetic.specs.declared.Division.the-variants.{Udiv, Sdiv, Urem, S
 use Rattle.arithmetic.specs.declared.Shift.the-variants.{Shl, Ashr, Lshr}
 use Rattle.arithmetic.specs.declared.Extension.the-variants.{Sext, Zext}
 use Rattle.refusal.specs.Lists.{isThere}
-use Rattle.refusal.specs.Words.{ascii}
+use Rattle.refusal.specs.SubjectWords.{ascii}
 use Rattle.text.specs.Bytes.{same}
 
 -- the spellings, by 003's sections: 7.1

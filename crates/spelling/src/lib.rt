@@ -13,7 +13,7 @@ ghost use Prim.Native.Nat.{_≤_};
 ghost use lib.ListN.{length, drop};
 ghost use Rattle.edition.specs.declared.Edition.{Edition};
 ghost use Rattle.spelling.specs.Operators.{bitwise as bitwiseList, predicates as predicateList, arithmetic as arithmeticList, shiftsAndCasts, operatorSpelt, operatorNamed, isReserved};
-ghost use Rattle.spelling.specs.Internal.{spelling, earlier, ifWord};
+ghost use Rattle.spelling.specs.Internal.{spelling, orSpelt, ifWord};
 
 pub mod claims;
 
@@ -26,7 +26,7 @@ pub enum Spelt {
 // What is found already, else the operator, if the bytes from `at` to the end are its word.
 fn or_word(found: Spelt, text: &[u8], at: usize, word: &[u8], op: Operator) -> Spelt
     requires { ⌜ at ≤ length (now text) ⌝ }
-    ensures { λ r. ⌜ r ≡ earlier found (ifWord (now (word .entry)) (drop at (now (text .entry))) op) ⌝ }
+    ensures { λ r. ⌜ r ≡ orSpelt found (ifWord (now (word .entry)) (drop at (now (text .entry))) op) ⌝ }
 {
     match found {
         Spelt::Is(before) => Spelt::Is(before),

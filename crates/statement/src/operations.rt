@@ -16,7 +16,7 @@ use refusal::Refusal;
 use spelling::Spelt;
 use spelling::operator_at;
 use store::names::BYTES;
-use text::Next;
+use text::NextToken;
 use text::scan::is_letter;
 use text::scan::next_token;
 use text::scan::spaces;
@@ -164,8 +164,8 @@ fn finish(
     ensures { λ r. ⌜ ((file starts lens : List ℕ) → lineResult r ≡ finished (variablesIn file starts lens (now (widths .entry)) n) line at (tokensFrom true i (drop i (now (text .entry))))) ⌝ }
 {
     match next_token(text, i) {
-        Next::Found(t) => LineRead::NoLine(refusal(Refusal::TOKEN_COUNT, t.start)),
-        Next::Nothing => if well_typed(widths, n, line) {
+        NextToken::OneMore(t) => LineRead::NoLine(refusal(Refusal::TOKEN_COUNT, t.start)),
+        NextToken::NoMore => if well_typed(widths, n, line) {
             LineRead::HasLine(line)
         } else {
             LineRead::NoLine(refusal(Refusal::TYPE_RULE_BROKEN, at))
@@ -189,8 +189,8 @@ fn operation<'a>(
     ensures { λ r. ⌜ ((f : File) (start next : ℕ) → f .variables ≡ variablesIn (now (file .entry)) (now (starts .entry)) (now (lens .entry)) (now (widths .entry)) n → start ≤ length (now (line .entry)) → Distinct (f .variables) → lineResult r ≡ readOperation f (lineAt (now (line .entry)) start next) output (tokensFrom true i (drop i (now (line .entry))))) ⌝ }
 {
     match next_token(line, i) {
-        Next::Nothing => LineRead::NoLine(refusal(Refusal::TOKEN_COUNT, line.len())),
-        Next::Found(t) => {
+        NextToken::NoMore => LineRead::NoLine(refusal(Refusal::TOKEN_COUNT, line.len())),
+        NextToken::OneMore(t) => {
             let start = t.start;
             let stop = t.stop;
             match operator_at(&line[..stop], start) {

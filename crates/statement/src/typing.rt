@@ -15,7 +15,7 @@ ghost use Rattle.constraint.specs.TypeRules.{ruleWord, resultWidth, isConstant,
 ghost use Rattle.store.specs.Tables.{unnamed};
 
 // An operand as the rules see it: no variable's value matters to them.
-fn word(widths: &[u64; Edition::VARIABLES], n: usize, o: Operand) -> Word
+fn rule_word(widths: &[u64; Edition::VARIABLES], n: usize, o: Operand) -> Word
     requires { ⌜ n ≤ maxVariables ⌝ }
     ensures { λ r. ⌜ r ≡ ruleWord (unnamed (now (widths .entry)) n) o ⌝ }
 {
@@ -29,7 +29,7 @@ fn word(widths: &[u64; Edition::VARIABLES], n: usize, o: Operand) -> Word
     }
 }
 
-fn target_width(widths: &[u64; Edition::VARIABLES], n: usize, o: Operand) -> u64
+fn result_width(widths: &[u64; Edition::VARIABLES], n: usize, o: Operand) -> u64
     requires { ⌜ n ≤ maxVariables ⌝ }
     ensures { λ r. ⌜ r ≡ resultWidth (unnamed (now (widths .entry)) n) o ⌝ }
 {
@@ -114,9 +114,9 @@ pub(crate) fn well_typed(widths: &[u64; Edition::VARIABLES], n: usize, line: Lin
     let first = operands.first;
     let second = operands.second;
     let third = operands.third;
-    let a = word(widths, n, first);
-    let b = word(widths, n, second);
-    let c = word(widths, n, third);
-    let k = target_width(widths, n, output);
+    let a = rule_word(widths, n, first);
+    let b = rule_word(widths, n, second);
+    let c = rule_word(widths, n, third);
+    let k = result_width(widths, n, output);
     typed(op, k, a, b, c) & constants_hold(op, second, third) & predicate_holds(output, op, a, b, c)
 }

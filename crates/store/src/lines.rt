@@ -1,8 +1,8 @@
 // The line table: nine words to a line. No other module knows how a line is laid out.
 use arithmetic::Operator;
 use arithmetic::Word;
-use arithmetic::numbering::number;
-use arithmetic::numbering::numbered;
+use arithmetic::numbering::operator_number;
+use arithmetic::numbering::operator_numbered;
 use constraint::Line;
 use constraint::Operand;
 use edition::Edition;
@@ -97,7 +97,7 @@ pub fn store_line(table: &mut [u64; TABLE_WORDS], n: usize, line: Line)
     let i = n * LINE_WORDS;
     let operands = line.operands;
     let op = line.operator;
-    table[i] = number(op);
+    table[i] = operator_number(op);
     let output = line.output;
     store_operand(table, i + OUTPUT, output);
     let first = operands.first;
@@ -114,7 +114,7 @@ pub fn operator_of(table: &[u64; TABLE_WORDS], n: usize) -> Operator
     ensures { λ r. ⌜ r ≡ lineIn (now (table .entry)) n .operator ⌝ }
 {
     let i = n * LINE_WORDS;
-    numbered(table[i])
+    operator_numbered(table[i])
 }
 
 pub fn output_of(table: &[u64; TABLE_WORDS], n: usize) -> Operand

@@ -7,7 +7,7 @@ use Rattle.refusal.specs.declared.Subject.the-variants.{Constraint}
 use Rattle.refusal.specs.Numbers.{misplacedLine}
 use Rattle.refusal.specs.Lists.{every, firstFrom}
 use Rattle.refusal.specs.Result.{refusal}
-use Rattle.refusal.specs.Words.{ascii}
+use Rattle.refusal.specs.SubjectWords.{ascii}
 use Rattle.refusal.proofs.ResultLaws.{never}
 use Rattle.arithmetic.specs.Rules.{arity, widthsHold, joins, typed}
 use Rattle.arithmetic.specs.Meaning.{valueOf, meaning}

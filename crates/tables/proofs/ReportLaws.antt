@@ -20,7 +20,7 @@ use Rattle.judge.proofs.VerdictLaws.{verdicts-length}
 use Rattle.answer.specs.Read.{readAnswer}
 use Rattle.tables.specs.declared.CheckReply.the-variants.{Checked, Refused}
 use Rattle.tables.specs.declared.Judgement.the-variants.{Done}
-use Rattle.tables.specs.declared.Report.the-variants.{Judged, Refused as NotJudged}
+use Rattle.tables.specs.declared.Report.the-variants.{Tallied, Refused as NotTallied}
 use Rattle.tables.specs.Internal.{CountsLines}
 use Rattle.tables.specs.Check.{checkingFor, checking, CheckOutcome, checked, checkOutcome}
 use Rattle.tables.specs.Report.{answering, tallyOf, reported, reportOutcome}
@@ -52,35 +52,35 @@ module _ (constraint answer values verdicts : List ℕ) (v : maxVariables ≤ le
 module _ (values verdicts out vs : List ℕ) where
   -- with a verdict: on m lines, and theirs stand in front
   module _ (o : Overall) (m : ℕ) where
-    judged-where : (c : Result (File × List ℕ)) → ((f : File) (row : List ℕ) → c ≡ accepted (f, row) → m ≡ length (f .lines)) → _≡_ {A = CheckOutcome} (record { reply = Checked o; values = out; verdicts = vs }) (checked values verdicts c) → (m ≤ length vs) × (Judged o (tallyOf (take m vs)) ≡ reported c)
-    judged-where (accepted (f, row)) n e =
+    tallied-where : (c : Result (File × List ℕ)) → ((f : File) (row : List ℕ) → c ≡ accepted (f, row) → m ≡ length (f .lines)) → _≡_ {A = CheckOutcome} (record { reply = Checked o; values = out; verdicts = vs }) (checked values verdicts c) → (m ≤ length vs) × (Tallied o (tallyOf (take m vs)) ≡ reported c)
+    tallied-where (accepted (f, row)) n e =
         let fresh = freshVerdicts f row in
         let behind = drop (length (f .lines)) verdicts in
         let q : Checked o ≡ Checked (overallOf fresh) = ap (λ y. y .reply) e in
         let a : o ≡ overallOf fresh = cc q in
         let b : vs ≡ fresh ++ behind = ap (λ y. y .verdicts) e in
         let l : length fresh ≡ m = verdicts-length (f .variables) row (f .lines) ∙ sym (n f row refl) in
-        (omega (arith, ap length b ∙ length-append fresh behind), ap₂ Judged a (ap tallyOf (rw b (take-at fresh behind m l))))
-    judged-where (refused x) n e = let q : Checked o ≡ Refused x = ap (λ y. y .reply) e in never (cc q)
+        (omega (arith, ap length b ∙ length-append fresh behind), ap₂ Tallied a (ap tallyOf (rw b (take-at fresh behind m l))))
+    tallied-where (refused x) n e = let q : Checked o ≡ Refused x = ap (λ y. y .reply) e in never (cc q)
 
   -- with a refusal
-  refused-where : (r : Refusal) (c : Result (File × List ℕ)) → _≡_ {A = CheckOutcome} (record { reply = Refused r; values = out; verdicts = vs }) (checked values verdicts c) → NotJudged r ≡ reported c
+  refused-where : (r : Refusal) (c : Result (File × List ℕ)) → _≡_ {A = CheckOutcome} (record { reply = Refused r; values = out; verdicts = vs }) (checked values verdicts c) → NotTallied r ≡ reported c
   refused-where r (accepted (f, row)) e = let q : Refused r ≡ Checked (overallOf (freshVerdicts f row)) = ap (λ y. y .reply) e in never (cc q)
-  refused-where r (refused x) e = let q : Refused r ≡ Refused x = ap (λ y. y .reply) e in ap NotJudged (cc q)
+  refused-where r (refused x) e = let q : Refused r ≡ Refused x = ap (λ y. y .reply) e in ap NotTallied (cc q)
 
 -- ---- the report
 module _ (constraint answer values verdicts out vs : List ℕ) where
-  judged-as : (o : Overall) (m : ℕ) → _≡_ {A = CheckOutcome} (record { reply = Checked o; values = out; verdicts = vs }) (checkOutcome constraint answer values verdicts) → CountsLines constraint (Done o m) → (m ≤ length vs) × (Judged o (tallyOf (take m vs)) ≡ reported (checking constraint answer values verdicts))
-  judged-as o m e n = judged-where values verdicts out vs o m (checking constraint answer values verdicts) (λ f row q. n f (checking-steps constraint answer values verdicts f row q .file)) e
+  tallied-as : (o : Overall) (m : ℕ) → _≡_ {A = CheckOutcome} (record { reply = Checked o; values = out; verdicts = vs }) (checkOutcome constraint answer values verdicts) → CountsLines constraint (Done o m) → (m ≤ length vs) × (Tallied o (tallyOf (take m vs)) ≡ reported (checking constraint answer values verdicts))
+  tallied-as o m e n = tallied-where values verdicts out vs o m (checking constraint answer values verdicts) (λ f row q. n f (checking-steps constraint answer values verdicts f row q .file)) e
 
   -- the verdicts that are counted are there
   pub lines-within : (o : Overall) (m : ℕ) → _≡_ {A = CheckOutcome} (record { reply = Checked o; values = out; verdicts = vs }) (checkOutcome constraint answer values verdicts) → CountsLines constraint (Done o m) → m ≤ length vs
-  lines-within o m e n = judged-as o m e n .0
+  lines-within o m e n = tallied-as o m e n .0
 
   -- from tables with room for any file
   module _ (v : maxVariables ≤ length values) (w : maxLines ≤ length verdicts) where
-    pub report-judged : (o : Overall) (m : ℕ) → _≡_ {A = CheckOutcome} (record { reply = Checked o; values = out; verdicts = vs }) (checkOutcome constraint answer values verdicts) → CountsLines constraint (Done o m) → Judged o (tallyOf (take m vs)) ≡ reportOutcome constraint answer
-    report-judged o m e n = judged-as o m e n .1 ∙ ap reported (room constraint answer values verdicts v w)
+    pub report-tallied : (o : Overall) (m : ℕ) → _≡_ {A = CheckOutcome} (record { reply = Checked o; values = out; verdicts = vs }) (checkOutcome constraint answer values verdicts) → CountsLines constraint (Done o m) → Tallied o (tallyOf (take m vs)) ≡ reportOutcome constraint answer
+    report-tallied o m e n = tallied-as o m e n .1 ∙ ap reported (room constraint answer values verdicts v w)
 
-    pub report-refused : (r : Refusal) → _≡_ {A = CheckOutcome} (record { reply = Refused r; values = out; verdicts = vs }) (checkOutcome constraint answer values verdicts) → NotJudged r ≡ reportOutcome constraint answer
+    pub report-refused : (r : Refusal) → _≡_ {A = CheckOutcome} (record { reply = Refused r; values = out; verdicts = vs }) (checkOutcome constraint answer values verdicts) → NotTallied r ≡ reportOutcome constraint answer
     report-refused r e = refused-where values verdicts out vs r (checking constraint answer values verdicts) e ∙ ap reported (room constraint answer values verdicts v w)

@@ -12,7 +12,7 @@ use Rattle.judge.specs.declared.Overall.the-variants.{Satisfied}
 use Rattle.judge.specs.Judge.{freshVerdicts}
 use Rattle.answer.specs.Read.{readAnswer}
 use Rattle.tables.specs.declared.Tally.{Tally}
-use Rattle.tables.specs.declared.Report.the-variants.{Judged}
+use Rattle.tables.specs.declared.Report.the-variants.{Tallied}
 use Rattle.tables.specs.Report.{answering, tallyOf, reported, reportOutcome}
 use Rattle.tables.specs.Claims.{Satisfies, ReportedExactly}
 use Rattle.tables.proofs.CheckingLaws.{Steps}
@@ -33,15 +33,15 @@ module _ (constraint answer : List ℕ) where
   steps-answering f row s = rw (s .file, s .answered)
 
   -- what is reported as satisfied meets the conditions
-  reported-satisfies : (r : Result (File × List ℕ)) → answering constraint answer ≡ r → (t : Tally) → reported r ≡ Judged Satisfied t → Satisfies constraint answer maxVariables maxLines
+  reported-satisfies : (r : Result (File × List ℕ)) → answering constraint answer ≡ r → (t : Tally) → reported r ≡ Tallied Satisfied t → Satisfies constraint answer maxVariables maxLines
   reported-satisfies (accepted (f, row)) e t q = steps-satisfy constraint answer maxVariables maxLines f row (answering-yields .holds (f, row) e) (cc q)
   reported-satisfies (refused x) e t q = never (cc q)
 
   -- what meets the conditions is reported as satisfied
-  satisfies-reported : Satisfies constraint answer maxVariables maxLines → (t : Tally) × (reportOutcome constraint answer ≡ Judged Satisfied t)
+  satisfies-reported : Satisfies constraint answer maxVariables maxLines → (t : Tally) × (reportOutcome constraint answer ≡ Tallied Satisfied t)
   satisfies-reported s =
       let t = tallyOf (freshVerdicts (s .file) (s .row)) in
-      (t, rw (steps-answering (s .file) (s .row) (satisfies-steps constraint answer maxVariables maxLines s)) (ap (λ o. Judged o t) (satisfies-overall constraint answer maxVariables maxLines s)))
+      (t, rw (steps-answering (s .file) (s .row) (satisfies-steps constraint answer maxVariables maxLines s)) (ap (λ o. Tallied o t) (satisfies-overall constraint answer maxVariables maxLines s)))
 
 pub reported-exactly : ReportedExactly
 reported-exactly constraint answer = (λ p. reported-satisfies constraint answer (answering constraint answer) refl (p .0) (p .1), satisfies-reported constraint answer)

@@ -26,6 +26,6 @@ pub struct Tally {
 }
 
 pub enum Report {
-    Judged(Overall, Tally),
+    Tallied(Overall, Tally),
     Refused(Refusal),
 }

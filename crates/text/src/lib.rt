@@ -22,9 +22,10 @@ pub struct Span {
     pub stop: usize,
 }
 
-pub enum Next {
-    Found(Span),
-    Nothing,
+// The next token of a line.
+pub enum NextToken {
+    OneMore(Span),
+    NoMore,
 }
 
 pub enum Number {

@@ -10,7 +10,6 @@ use super::scan::token_ends;
 use edition::Edition;
 ghost use mathlib.Core.Path.{_≡_};
 ghost use mathlib.Core.Bool.{cond, _&&_};
-ghost use mathlib.Core.List.{_∷_};
 ghost use Prim.Native.Nat.{_+_, _≤_};
 ghost use lib.Dec.{leb};
 ghost use lib.ListN.{length, drop};
@@ -19,7 +18,7 @@ ghost use Rattle.text.specs.declared.Class.the-variants.{Digit, Solid};
 ghost use Rattle.text.specs.declared.Number.the-variants.{TooBig, Misspelt};
 ghost use Rattle.text.specs.declared.TypeRead.the-variants.{Width, NoWidth, NoType};
 ghost use Rattle.text.specs.Bytes.{frontOf};
-ghost use Rattle.text.specs.Scan.{isOf, past, magnitude, numberRead, typeOf, typeBehindColon, StopsAt};
+ghost use Rattle.text.specs.Scan.{isOf, past, magnitude, numberRead, typeWithDigits, typeBehindColon, StopsAt};
 
 // The digits of a constant or a value, at most.
 pub const MAX_DIGITS: usize = 20;
@@ -67,7 +66,7 @@ pub fn digits_at(text: &[u8], at: usize) -> Digits
 }
 
 // The number, if it has 1 to `most` digits.
-pub fn counted(number: Number, digits: usize, most: usize) -> Number
+pub fn within_digits(number: Number, digits: usize, most: usize) -> Number
     ensures { λ r. ⌜ r ≡ cond (leb 1 digits && leb digits most) number Misspelt ⌝ }
 {
     if digits == 0 {
@@ -90,7 +89,7 @@ pub fn number_at(text: &[u8], at: usize, most: usize) -> Number
     if stop < text.len() {
         return Number::Misspelt;
     }
-    counted(number, stop - at, most)
+    within_digits(number, stop - at, most)
 }
 
 // The number of 1 to `most` digits behind the byte at `at`; none where the text ends there.
@@ -130,7 +129,7 @@ fn no_type(at: usize) -> TypeFound
 // The K of a type, from `at` to the end of the token: one or two digits.
 fn width_at(line: &[u8], at: usize) -> TypeFound
     requires { ⌜ at ≤ length (now line) ⌝ }
-    ensures { λ r. ⌜ (r .kind ≡ typeOf (105 ∷ frontOf (isOf Solid) (drop at (now (line .entry))))) × StopsAt (past (isOf Solid) (now (line .entry)) at) (r .stop) (r .kind) ⌝ }
+    ensures { λ r. ⌜ (r .kind ≡ typeWithDigits (frontOf (isOf Solid) (drop at (now (line .entry))))) × StopsAt (past (isOf Solid) (now (line .entry)) at) (r .stop) (r .kind) ⌝ }
 {
     if at == line.len() {
         return no_type(at);

@@ -1,6 +1,6 @@
 // Scanners: one loop for every class of bytes.
 use super::Class;
-use super::Next;
+use super::NextToken;
 use super::Span;
 ghost use mathlib.Core.Path.{_≡_};
 ghost use mathlib.Core.Bool.{true};
@@ -168,16 +168,16 @@ pub fn next_line(file: &[u8], stop: usize) -> usize
 }
 
 // The first token of a line from `at` on.
-pub fn next_token(line: &[u8], at: usize) -> Next
+pub fn next_token(line: &[u8], at: usize) -> NextToken
     requires { ⌜ at ≤ length (now line) ⌝ }
     ensures { λ r. ⌜ (tokensFrom true at (drop at (now (line .entry))) ≡ tokensBy (now (line .entry)) r) × Within (now (line .entry)) at r ⌝ }
 {
     let start = scan(line, at, Class::Space);
     if start == line.len() {
-        return Next::Nothing;
+        return NextToken::NoMore;
     }
     let stop = scan(line, start, Class::Solid);
-    Next::Found(Span { start, stop })
+    NextToken::OneMore(Span { start, stop })
 }
 
 // Whether a name stands from `at` to the end.

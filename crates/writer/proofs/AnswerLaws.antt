@@ -4,13 +4,13 @@ use mathlib.Core.List.{List, [], _∷_, _++_}
 use Prim.Native.Nat.{ℕ, _+_, _≤_, _<_}
 use native.Mathlib.Omega.{arith}
 use lib.ListN.{length, length-append}
-use Rattle.refusal.specs.Words.{ascii}
+use Rattle.refusal.specs.SubjectWords.{ascii}
 use Rattle.constraint.specs.File.{Variable}
 use Rattle.store.specs.Tables.{tabulate, variablesIn}
 use Rattle.store.proofs.LookupLaws.{variables-length}
 use Rattle.answer.specs.SolutionWords.{satisfiable}
 use Rattle.writer.specs.Text.{settingsText, valuesLine, answerText}
-use Rattle.printing.specs.Places.{Put}
+use Rattle.printing.specs.Room.{Put}
 use Rattle.printing.proofs.PlaceLaws.{put-none, put-then}
 
 -- the line of values of one variable or more

@@ -9,7 +9,7 @@ use Rattle.text.specs.Spelling.{maxDigits}
 use Rattle.constraint.specs.File.{Variable}
 use Rattle.store.specs.Tables.{variableIn, variablesIn}
 use Rattle.writer.specs.Text.{settingText, settingsText}
-use Rattle.printing.specs.Places.{Put}
+use Rattle.printing.specs.Room.{Put}
 use Rattle.printing.proofs.PlaceLaws.{put-none, put-then}
 use Rattle.writer.proofs.SettingLaws.{setting-bound, settings-none, settings-more, settings-more-length, settings-within}
 

@@ -12,7 +12,7 @@ use Rattle.writer.specs.declared.WriteReply.{WriteReply}
 use Rattle.writer.specs.declared.WriteReply.the-variants.{Written, Refused}
 use Rattle.writer.specs.Text.{answerText}
 use Rattle.writer.specs.Write.{WriteOutcome, roomFor, written}
-use Rattle.printing.specs.Places.{Put}
+use Rattle.printing.specs.Room.{Put}
 use Rattle.printing.proofs.PlaceLaws.{placed-front}
 
 -- the answer's length is known

@@ -9,7 +9,7 @@ use lib.Pow.{pow-mono}
 use Rattle.edition.specs.declared.Edition.{Edition}
 use Rattle.edition.specs.Edition.{maxNameBytes}
 use Rattle.refusal.specs.Lists.{every}
-use Rattle.refusal.specs.Words.{ascii}
+use Rattle.refusal.specs.SubjectWords.{ascii}
 use Rattle.text.specs.Bytes.{frontOf, isSpace}
 use Rattle.text.specs.Spelling.{isName, maxDigits, numberBound}
 use Rattle.constraint.specs.File.{Variable, widthAt}

@@ -5,7 +5,7 @@ use mathlib.Core.List.{List, [], _∷_, _++_}
 use mathlib.Core.Bool.{not}
 use lib.ListN.{length}
 use Rattle.refusal.specs.Lists.{every}
-use Rattle.refusal.specs.Words.{ascii}
+use Rattle.refusal.specs.SubjectWords.{ascii}
 use Rattle.text.specs.Bytes.{isLineFeed}
 use Rattle.text.specs.Lines.{TextLine, textLines}
 use Rattle.constraint.specs.File.{Variable}

@@ -6,7 +6,7 @@ use mathlib.Core.List.{List, [], _∷_, _++_, flatMap}
 use mathlib.Core.Bool.{true, cond, not}
 use native.Mathlib.Omega.{arith}
 use lib.ListN.{length, getD, length-append}
-use Rattle.refusal.specs.Words.{ascii}
+use Rattle.refusal.specs.SubjectWords.{ascii}
 use Rattle.text.specs.Bytes.{same, isSpace}
 use Rattle.text.specs.Lines.{Token, tokensFrom}
 use Rattle.text.specs.Spelling.{decimal, upTo, behind}
@@ -52,11 +52,11 @@ settings-tokens (x ∷ xs) (v ∷ row) at g =
 -- a token that sets the first variable, or one of the others
 setting-here : (x : Variable) (xs : List Variable) (v at : ℕ) → Printable x v → IsSetting (x ∷ xs) (record { start = at; bytes = settingBytes x v })
 unfolding nameAt widthAt
-setting-here x xs v at g = record { variable = 0; digits = digits v; declared = omega arith; numeral = digits-numeral v; spelt = refl; fits = rw (digits-make v (g .below)) (g .fits) }
+setting-here x xs v at g = record { variable = 0; value-digits = digits v; declared = omega arith; numeral = digits-numeral v; spelt = refl; value-fits = rw (digits-make v (g .below)) (g .fits) }
 
 setting-later : (x : Variable) (xs : List Variable) (t : Token) → IsSetting xs t → IsSetting (x ∷ xs) t
 unfolding nameAt widthAt
-setting-later x xs t h = record { variable = suc (h .variable); digits = h .digits; declared = omega arith; numeral = h .numeral; spelt = h .spelt; fits = h .fits }
+setting-later x xs t h = record { variable = suc (h .variable); value-digits = h .value-digits; declared = omega arith; numeral = h .numeral; spelt = h .spelt; value-fits = h .value-fits }
 
 -- every one sets a variable
 pub tokens-set : (xs : List Variable) (row : List ℕ) (at : ℕ) → Printables xs row → Each (IsSetting xs) (settingTokens at xs row)

@@ -7,13 +7,13 @@ use native.Mathlib.Decide.{decLt}
 use native.Mathlib.Omega.{arith}
 use lib.ListN.{length, getD, take, drop, length-append, length-take, length-drop}
 use Rattle.edition.specs.Edition.{maxFileBytes}
-use Rattle.refusal.specs.Words.{ascii}
+use Rattle.refusal.specs.SubjectWords.{ascii}
 use Rattle.text.specs.Spelling.{maxDigits}
 use Rattle.store.specs.Tables.{tabulate, variableIn, variablesIn}
 use Rattle.store.proofs.TableLaws.{length-tabulate, tabulate-suc}
 use Rattle.printing.specs.Digits.{digits}
 use Rattle.writer.specs.Text.{settingText, settingsText}
-use Rattle.printing.specs.Places.{Put}
+use Rattle.printing.specs.Room.{Put}
 use Rattle.writer.proofs.ListLaws.{zip-snoc, flatten-snoc}
 use Rattle.printing.proofs.PlaceLaws.{put-then}
 use Rattle.printing.proofs.DigitLaws.{digits-count}

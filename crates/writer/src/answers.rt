@@ -12,9 +12,9 @@ ghost use Prim.Native.Nat.{ℕ, _+_, _≤_};
 ghost use lib.ListN.{length, take, drop};
 ghost use Rattle.edition.specs.Edition.{maxVariables, maxFileBytes};
 ghost use Rattle.store.specs.Tables.{variablesIn};
-ghost use Rattle.printing.specs.Places.{Put};
+ghost use Rattle.printing.specs.Room.{Put};
 ghost use Rattle.writer.specs.Text.{settingText, settingsText, valuesLine, answerText};
-ghost use Rattle.writer.specs.Places.{Part, maxSettingsLength};
+ghost use Rattle.writer.specs.Parts.{Part, maxSettingsLength};
 
 // As many of the `len` bytes at `start` as the file has.
 fn part(file: &[u8], start: usize, len: usize) -> Span

@@ -14,20 +14,20 @@ operator-of-requires c κs = search needs
 first-of-requires : tie.Need-first-of-requires
 first-of-requires c κs = search needs
 
-word-requires : tie.Need-word-requires
-word-requires c κs = search needs
+operand-word-requires : tie.Need-operand-word-requires
+operand-word-requires c κs = search needs
 
 second-of-requires : tie.Need-second-of-requires
 second-of-requires c κs = search needs
 
-word-requires-2 : tie.Need-word-requires-2
-word-requires-2 c κs = search needs
+operand-word-requires-2 : tie.Need-operand-word-requires-2
+operand-word-requires-2 c κs = search needs
 
 third-of-requires : tie.Need-third-of-requires
 third-of-requires c κs = search needs
 
-word-requires-3 : tie.Need-word-requires-3
-word-requires-3 c κs = search needs
+operand-word-requires-3 : tie.Need-operand-word-requires-3
+operand-word-requires-3 c κs = search needs
 
 output-of-requires : tie.Need-output-of-requires
 output-of-requires c κs = search needs
@@ -38,11 +38,11 @@ target-requires c κs = search needs
 evaluate-requires : tie.Need-evaluate-requires
 evaluate-requires c κs =
     let h = c .before .before .before .before .before .before .before .before .before .before .pre .3 in
-    rw (c .target .ensures, c .before .output-of .ensures, c .before .before .word3 .ensures, c .before .before .before .third-of .ensures, c .before .before .before .before .word2 .ensures, c .before .before .before .before .before .second-of .ensures, c .before .before .before .before .before .before .word .ensures, c .before .before .before .before .before .before .before .first-of .ensures, c .before .before .before .before .before .before .before .before .operator-of .ensures) (given _ _ _ _ _ (h .widths) (h .rule) (h .fit))
+    rw (c .target .ensures, c .before .output-of .ensures, c .before .before .operand-word3 .ensures, c .before .before .before .third-of .ensures, c .before .before .before .before .operand-word2 .ensures, c .before .before .before .before .before .second-of .ensures, c .before .before .before .before .before .before .operand-word .ensures, c .before .before .before .before .before .before .before .first-of .ensures, c .before .before .before .before .before .before .before .before .operator-of .ensures) (given _ _ _ _ _ (h .widths) (h .rule) (h .fit))
 
 -- what `evaluate` answers, said of the line
 told : (c : tie.After-evaluate) → let s = c .before .before .before .before .before .before .before .before .before .before .before .args in c .evaluate .result ≡ answer (unnamed (s .widths .now) (s .n)) (s .row .now) (lineIn (s .lines .now) (s .k))
-told c = rw (c .before .target .ensures, c .before .before .output-of .ensures, c .before .before .before .word3 .ensures, c .before .before .before .before .third-of .ensures, c .before .before .before .before .before .word2 .ensures, c .before .before .before .before .before .before .second-of .ensures, c .before .before .before .before .before .before .before .word .ensures, c .before .before .before .before .before .before .before .before .first-of .ensures, c .before .before .before .before .before .before .before .before .before .operator-of .ensures) at (c .evaluate .ensures)
+told c = rw (c .before .target .ensures, c .before .before .output-of .ensures, c .before .before .before .operand-word3 .ensures, c .before .before .before .before .third-of .ensures, c .before .before .before .before .before .operand-word2 .ensures, c .before .before .before .before .before .before .second-of .ensures, c .before .before .before .before .before .before .before .operand-word .ensures, c .before .before .before .before .before .before .before .before .first-of .ensures, c .before .before .before .before .before .before .before .before .before .operator-of .ensures) at (c .evaluate .ensures)
 
 enum-known-result : tie.Need-enum-known-result
 enum-known-result c = search needs
@@ -73,11 +73,11 @@ judge-line-spec =
     (tie.spec
     operator-of-requires
     first-of-requires
-    word-requires
+    operand-word-requires
     second-of-requires
-    word-requires-2
+    operand-word-requires-2
     third-of-requires
-    word-requires-3
+    operand-word-requires-3
     output-of-requires
     target-requires
     evaluate-requires

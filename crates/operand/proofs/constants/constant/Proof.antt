@@ -25,16 +25,16 @@ read c =
     let d = c .before .before .before in
     let s = d .before .before in
     rw (c .constant-of .ensures)
-    (constant-read (s .args .line .now) (s .args .at) (d .digits-at .result .stop) (s .pre) (d .digits-at .ensures .1) (rw (d .digits-at .ensures .0) at (c .before .before .counted .ensures)) (c .before .type-at .ensures .0))
+    (constant-read (s .args .line .now) (s .args .at) (d .digits-at .result .stop) (s .pre) (d .digits-at .ensures .1) (rw (d .digits-at .ensures .0) at (c .before .before .within-digits .ensures)) (c .before .type-at .ensures .0))
 
 digits-at-requires : tie.Need-digits-at-requires
 digits-at-requires c κs = search needs
 
-sub-counted : tie.Need-sub-counted
-sub-counted c = bounds c .0
+sub-within-digits : tie.Need-sub-within-digits
+sub-within-digits c = bounds c .0
 
-counted-requires : tie.Need-counted-requires
-counted-requires c κs = search needs
+within-digits-requires : tie.Need-within-digits-requires
+within-digits-requires c κs = search needs
 
 type-at-requires : tie.Need-type-at-requires
 type-at-requires c κs = bounds (c .before) .1
@@ -64,7 +64,7 @@ returns-2 c =
     let s = d .before .before in
     let f = m .before .type-at in
     let g = sym (m .constant-of .ensures) ∙ c .before .o .given .1 in
-    let e : f .result .stop ≡ past (isOf Solid) (s .args .line .now) (s .args .at) = good-stops (m .before .before .counted .result) (f .result .kind) _ _ _ g (f .ensures .1) ∙ constant-stop (s .args .line .now) (s .args .at) (d .digits-at .result .stop) (s .pre) (d .digits-at .ensures .1) in
+    let e : f .result .stop ≡ past (isOf Solid) (s .args .line .now) (s .args .at) = good-stops (m .before .before .within-digits .result) (f .result .kind) _ _ _ g (f .ensures .1) ∙ constant-stop (s .args .line .now) (s .args .at) (d .digits-at .result .stop) (s .pre) (d .digits-at .ensures .1) in
     (rw e (taken-read readConstant (s .args .line .now) (s .args .at) (past (isOf Solid) (s .args .line .now) (s .args .at)) refl _ (rw (c .before .o .given .1) at (read m))), omega (arith, e, past-le (isOf Solid) (s .args .line .now) (s .args .at) (s .pre)))
 
 pub constant-spec : {M : Type 1} → statement M
@@ -72,8 +72,8 @@ constant-spec =
     tie.close
     (tie.spec
     digits-at-requires
-    sub-counted
-    counted-requires
+    sub-within-digits
+    within-digits-requires
     type-at-requires
     constant-of-requires
     enum-known-n

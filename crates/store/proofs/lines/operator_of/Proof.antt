@@ -6,19 +6,19 @@ use Rattle.store.proofs.lines.operator_of.Tie as tie
 mul-i : tie.Need-mul-i
 mul-i c = search needs
 
-mul-numbered : tie.Need-mul-numbered
-mul-numbered c = search needs
+mul-operator-numbered : tie.Need-mul-operator-numbered
+mul-operator-numbered c = search needs
 
-element-copy-out-numbered : tie.Need-element-copy-out-numbered
-element-copy-out-numbered c = search needs
+element-copy-out-operator-numbered : tie.Need-element-copy-out-operator-numbered
+element-copy-out-operator-numbered c = search needs
 
-numbered-requires : tie.Need-numbered-requires
-numbered-requires c κs = search needs
+operator-numbered-requires : tie.Need-operator-numbered-requires
+operator-numbered-requires c κs = search needs
 
 returns : tie.Need-returns
 unfolding lineIn
-returns c = c .numbered .ensures
+returns c = c .operator-numbered .ensures
 
 pub operator-of-spec : {M : Type 1} → statement M
 operator-of-spec =
-    tie.close (tie.spec mul-i mul-numbered element-copy-out-numbered numbered-requires returns)
+    tie.close (tie.spec mul-i mul-operator-numbered element-copy-out-operator-numbered operator-numbered-requires returns)

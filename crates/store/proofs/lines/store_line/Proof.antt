@@ -7,8 +7,8 @@ use Rattle.store.proofs.lines.store_line.Tie as tie
 mul-i : tie.Need-mul-i
 mul-i c = search needs
 
-number-requires : tie.Need-number-requires
-number-requires c κs = search needs
+operator-number-requires : tie.Need-operator-number-requires
+operator-number-requires c κs = search needs
 
 mul-table : tie.Need-mul-table
 mul-table c = search needs
@@ -44,14 +44,14 @@ returns : tie.Need-returns
 unfolding withLineAt
 returns c =
     let s = c .before .before .before .before .before .before .before .before .before .before in
-    (c .store-operand4 .ensures .0, rw (c .store-operand4 .ensures .1, c .before .before .store-operand3 .ensures .1, c .before .before .before .before .store-operand2 .ensures .1, c .before .before .before .before .before .before .store-operand .ensures .1, c .before .before .before .before .before .before .before .before .number .ensures) (lines-more (s .args .table .now) (s .args .n) (s .args .line) (omega arith)))
+    (c .store-operand4 .ensures .0, rw (c .store-operand4 .ensures .1, c .before .before .store-operand3 .ensures .1, c .before .before .before .before .store-operand2 .ensures .1, c .before .before .before .before .before .before .store-operand .ensures .1, c .before .before .before .before .before .before .before .before .operator-number .ensures) (lines-more (s .args .table .now) (s .args .n) (s .args .line) (omega arith)))
 
 pub store-line-spec : {M : Type 1} → statement M
 store-line-spec =
     tie.close
     (tie.spec
     mul-i
-    number-requires
+    operator-number-requires
     mul-table
     element-write-table
     add-store-operand

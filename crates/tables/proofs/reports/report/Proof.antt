@@ -2,7 +2,7 @@ use mathlib.Core.Path.{sym}
 use native.Mathlib.Omega.{arith}
 use lib.Seq.{length-take-le}
 use borrow.Author.Needs.{needs}
-use Rattle.tables.proofs.ReportLaws.{lines-within, report-judged, report-refused}
+use Rattle.tables.proofs.ReportLaws.{lines-within, report-tallied, report-refused}
 use Rattle.tables.proofs.reports.report.Statement.{statement}
 use Rattle.tables.proofs.reports.report.Tie as tie
 
@@ -38,7 +38,7 @@ returns c =
     let s = c .before .before .before .before .before .before .before .before .before .before .before .before in
     let p = c .before .before .before in
     let e = rw (p .o .given .1) at (c .before .before .before .before .before .before .before .check-lines .ensures) in
-    rw (c .tally .ensures) (report-judged (s .args .constraint .now) (s .args .answer .now) _ _ _ _ (omega arith) (omega arith) (p .o .given .0 .0) (p .o .given .0 .1 .0) (e .0) (e .1))
+    rw (c .tally .ensures) (report-tallied (s .args .constraint .now) (s .args .answer .now) _ _ _ _ (omega arith) (omega arith) (p .o .given .0 .0) (p .o .given .0 .1 .0) (e .0) (e .1))
 
 returns-2 : tie.Need-returns-2
 returns-2 c =

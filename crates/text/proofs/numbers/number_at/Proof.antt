@@ -14,19 +14,19 @@ returns c =
     let a = s .args in
     number-other (a .most) (a .text .now) (a .at) _ (s .pre) (c .before .digits-at .ensures .1) (c .if1 .taken)
 
-sub-counted : tie.Need-sub-counted
-sub-counted c = search needs
+sub-within-digits : tie.Need-sub-within-digits
+sub-within-digits c = search needs
 
-counted-requires : tie.Need-counted-requires
-counted-requires c κs = search needs
+within-digits-requires : tie.Need-within-digits-requires
+within-digits-requires c κs = search needs
 
 returns-2 : tie.Need-returns-2
 returns-2 c =
     let d = c .before .before in
     let s = d .before .before in
     let a = s .args in
-    c .counted .ensures ∙ number-whole (a .most) (a .text .now) (a .at) _ (s .pre) (d .digits-at .ensures .1) (c .before .if1 .left) _ (d .digits-at .ensures .0)
+    c .within-digits .ensures ∙ number-whole (a .most) (a .text .now) (a .at) _ (s .pre) (d .digits-at .ensures .1) (c .before .if1 .left) _ (d .digits-at .ensures .0)
 
 pub number-at-spec : {M : Type 1} → statement M
 number-at-spec =
-    tie.close (tie.spec digits-at-requires returns sub-counted counted-requires returns-2)
+    tie.close (tie.spec digits-at-requires returns sub-within-digits within-digits-requires returns-2)

@@ -1,7 +1,7 @@
-use Rattle.constraint.specs.TypeRules.{resultWidth}
+use Rattle.constraint.specs.TypeRules.{ruleWord}
 use borrow.Author.Needs.{needs}
-use Rattle.statement.proofs.typing.target_width.Statement.{statement}
-use Rattle.statement.proofs.typing.target_width.Tie as tie
+use Rattle.statement.proofs.typing.rule_word.Statement.{statement}
+use Rattle.statement.proofs.typing.rule_word.Tie as tie
 
 enum-told : tie.Need-enum-told
 enum-told c = search needs
@@ -16,18 +16,18 @@ enum-known-o-2 : tie.Need-enum-known-o-2
 enum-known-o-2 c = search needs
 
 returns : tie.Need-returns
-unfolding resultWidth
+unfolding ruleWord
 returns c = rw (c .enum-told .given .1)
 
 returns-2 : tie.Need-returns-2
-unfolding resultWidth
-returns-2 c = rw (c .before .before .o .given .1) (c .width-of .ensures)
+unfolding ruleWord
+returns-2 c = rw (c .before .before .o .given .1, c .width-of .ensures)
 
 returns-3 : tie.Need-returns-3
-unfolding resultWidth
+unfolding ruleWord
 returns-3 c = rw (c .before .o2 .given .1)
 
-pub target-width-spec : {M : Type 1} → statement M
-target-width-spec =
+pub rule-word-spec : {M : Type 1} → statement M
+rule-word-spec =
     tie.close
     (tie.spec enum-told enum-known-o width-of-requires enum-known-o-2 returns returns-2 returns-3)

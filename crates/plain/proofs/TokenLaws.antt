@@ -13,14 +13,14 @@ use Rattle.edition.specs.declared.Edition.{Edition}
 use Rattle.edition.specs.Edition.{editionNumbered, maxVariables, maxNameBytes, isWidth}
 use Rattle.refusal.specs.Lists.{every, isThere}
 use Rattle.refusal.specs.Result.{accepted}
-use Rattle.refusal.specs.Words.{ascii}
+use Rattle.refusal.specs.SubjectWords.{ascii}
 use Rattle.refusal.proofs.ResultLaws.{never, Yields, yields-accepted, yields-cond, yields-ensure, yields-both, yields-given}
 use Rattle.refusal.proofs.BoolLaws.{and-true, fails}
 use Rattle.refusal.proofs.ListLaws.{every-weaken, first-passes}
 use Rattle.arithmetic.specs.declared.Word.{Word}
 use Rattle.text.specs.Bytes.{same, isDigit, isLetter, isNameByte}
 use Rattle.text.specs.Lines.{Token}
-use Rattle.text.specs.Spelling.{isName, isNumeral, decimal, maxDigits, numberBound, leadingZero, isType, typeWidth, upTo, behind}
+use Rattle.text.specs.Spelling.{isName, isNumeral, decimal, maxDigits, numberBound, leadingZero, isType, typeWidth, upTo, behind, maxWidthDigits}
 use Rattle.text.proofs.NameLaws.{same-true}
 use Rattle.text.proofs.SeenLaws.{letter-other}
 use Rattle.text.proofs.TokenLaws.{parts-join, up-to-join, behind-join}
@@ -34,7 +34,7 @@ use Rattle.constraint.proofs.EachLaws.{each-at}
 use Rattle.constraint.proofs.VariableLaws.{named-at}
 use Rattle.constraint.proofs.VariableLaws.{width-test, variable-within}
 use Rattle.arithmetic.proofs.RuleLaws.{width-is}
-use Rattle.plain.specs.Says.{SpellsVersion, maxWidthDigits, SpellsWidth, SpellsVariable, SpellsConstant, SpellsOperand, SaysExpectation, says-0, says-1}
+use Rattle.plain.specs.Says.{SpellsVersion, SpellsWidth, SpellsVariable, SpellsConstant, SpellsOperand, SaysExpectation, says-0, says-1}
 
 -- ---- tests
 
@@ -87,7 +87,7 @@ not-name (b ∷ s) t e h =
     let d = and-true (isDigit b) (every isDigit s) e .0 in
     rw (fails (isLetter b) (λ l. never (cc (sym d ∙ letter-other b l .0))))
 
--- ---- the parts of a word with a type
+-- ---- the parts of a token with a type
 typed-join : (s d : List ℕ) → s ++ (code ":" ∷ code "i" ∷ []) ++ d ≡ s ++ (code ":" ∷ []) ++ (code "i" ∷ d)
 typed-join s d = append-assoc s (code ":" ∷ code "i" ∷ []) d ∙ sym (append-assoc s (code ":" ∷ []) (code "i" ∷ d))
 
@@ -104,7 +104,7 @@ type-is [] e w = never (cc e)
 type-is (b ∷ s) e w =
     let p = and-true (eqb b (code "i") && isNumeral maxWidthDigits s) (not (leadingZero s)) e in
     let q = and-true (eqb b (code "i")) (isNumeral maxWidthDigits s) (p .0) in
-    (ap (λ (n : ℕ). n ∷ s) (eqb-true b (code "i") (q .0)), record { numeral = q .1; no-zero = not-true (leadingZero s) (p .1); number = refl; width = width-is (decimal s) w })
+    (ap (λ (n : ℕ). n ∷ s) (eqb-true b (code "i") (q .0)), record { numeral = q .1; no-zero = not-true (leadingZero s) (p .1); makes = refl; width = width-is (decimal s) w })
 
 typed-is : (w : List ℕ) → isType (behind (code ":") w) ≡ true → isWidth (typeWidth (behind (code ":") w)) ≡ true → w ≡ upTo (code ":") w ++ (code ":" ∷ code "i" ∷ []) ++ drop 1 (behind (code ":") w)
 typed-is w e k =
@@ -118,9 +118,9 @@ module _ (d : List ℕ) (k : ℕ) (h : SpellsWidth d k) where
   type-again = rw (h .numeral, h .no-zero)
 
   width-again : isWidth (decimal d) ≡ true
-  width-again = rw (h .number) (width-test k (h .width))
+  width-again = rw (h .makes) (width-test k (h .width))
 
--- ---- the header's words
+-- ---- the header's tokens
 pub version-is : (w : List ℕ) (e : Edition) → versionOf w ≡ some e → SpellsVersion w e
 unfolding versionOf
 version-is w e q =
@@ -163,7 +163,7 @@ declare-is e xs t =
     yields-ensure (isWidth (typeWidth type)) _ λ w.
     yields-both (leb (length name) maxNameBytes) (ltb (length xs) maxVariables) _ λ _ _.
     yields-both (not (isReserved e name)) (not (isThere (variableNamed name xs))) _ λ _ _.
-    yields-accepted (record { digits = drop 1 type; spelt = typed-is (t .bytes) k w; width = type-is type k w .1 })
+    yields-accepted (record { width-digits = drop 1 type; spelt = typed-is (t .bytes) k w; width = type-is type k w .1 })
 
 pub declare-again : (e : Edition) (xs : List Variable) (x : Variable) (t : Token) → SpellsVariable (t .bytes) x → SoundVariable e x → variableNamed (x .name) xs ≡ none → length xs < maxVariables → declare e xs t ≡ accepted x
 unfolding declare
@@ -171,16 +171,16 @@ declare-again e xs x t q s d h =
     let c = name-no-colon (x .name) (s .spelt) in
     rw (
       q .spelt,
-      typed-front (x .name) (q .digits) c,
-      typed-behind (x .name) (q .digits) c,
+      typed-front (x .name) (q .width-digits) c,
+      typed-behind (x .name) (q .width-digits) c,
       s .spelt,
-      type-again (q .digits) (x .width) (q .width),
-      width-again (q .digits) (x .width) (q .width),
+      type-again (q .width-digits) (x .width) (q .width),
+      width-again (q .width-digits) (x .width) (q .width),
       le-leb (length (x .name)) maxNameBytes (s .short),
       lt-ltb (length xs) maxVariables h,
       s .free,
       d,
-      q .width .number,
+      q .width .makes,
     )
 
 -- ---- operands
@@ -206,7 +206,7 @@ constant-is xs t =
     yields-both (isNumeral maxDigits number) (isType type) _ λ n k.
     yields-ensure (isWidth (typeWidth type)) _ λ w.
     yields-ensure (ltb (decimal number) numberBound) _ λ b.
-    yields-accepted (record { number = number; digits = drop 1 type; spelt = typed-is (t .bytes) k w; numeral = n; width = type-is type k w .1; below = ltb-true (decimal number) numberBound b; value = refl })
+    yields-accepted (record { value-digits = number; width-digits = drop 1 type; spelt = typed-is (t .bytes) k w; numeral = n; width = type-is type k w .1; below = ltb-true (decimal number) numberBound b; value = refl })
 
 pub operand-is : (xs : List Variable) (t : Token) → Yields (SpellsOperand xs (t .bytes)) (readOperand xs t)
 unfolding readOperand
@@ -215,19 +215,19 @@ operand-is xs t = yields-cond (isName (t .bytes)) (variable-is xs t) (constant-i
 constant-again : (xs : List Variable) (w : Word) (t : Token) → SpellsConstant (t .bytes) w → readOperand xs t ≡ accepted (Const w)
 unfolding readOperand readConstant
 constant-again xs w t q =
-    let c = numeral-no (code ":") colon-digit maxDigits (q .number) (q .numeral) in
-    let p = numeral-parts maxDigits (q .number) (q .numeral) in
-    let n : isName (q .number ++ (code ":" ∷ code "i" ∷ []) ++ q .digits) ≡ false = ap isName (append-assoc (q .number) (code ":" ∷ code "i" ∷ []) (q .digits)) ∙ not-name (q .number) _ (p .1) (p .0) in
+    let c = numeral-no (code ":") colon-digit maxDigits (q .value-digits) (q .numeral) in
+    let p = numeral-parts maxDigits (q .value-digits) (q .numeral) in
+    let n : isName (q .value-digits ++ (code ":" ∷ code "i" ∷ []) ++ q .width-digits) ≡ false = ap isName (append-assoc (q .value-digits) (code ":" ∷ code "i" ∷ []) (q .width-digits)) ∙ not-name (q .value-digits) _ (p .1) (p .0) in
     rw (
       q .spelt,
       n,
-      typed-front (q .number) (q .digits) c,
-      typed-behind (q .number) (q .digits) c,
+      typed-front (q .value-digits) (q .width-digits) c,
+      typed-behind (q .value-digits) (q .width-digits) c,
       q .numeral,
-      type-again (q .digits) (w .width) (q .width),
-      width-again (q .digits) (w .width) (q .width),
-      lt-ltb (decimal (q .number)) numberBound (q .below),
-      q .width .number,
+      type-again (q .width-digits) (w .width) (q .width),
+      width-again (q .width-digits) (w .width) (q .width),
+      lt-ltb (decimal (q .value-digits)) numberBound (q .below),
+      q .width .makes,
       ← q .value,
     )
 

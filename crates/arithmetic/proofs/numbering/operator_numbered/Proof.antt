@@ -1,7 +1,7 @@
 use Rattle.arithmetic.specs.Numbering.{listed, operatorNumbered}
 use Rattle.arithmetic.proofs.NumberLaws.{last}
-use Rattle.arithmetic.proofs.numbering.numbered.Statement.{statement}
-use Rattle.arithmetic.proofs.numbering.numbered.Tie as tie
+use Rattle.arithmetic.proofs.numbering.operator_numbered.Statement.{statement}
+use Rattle.arithmetic.proofs.numbering.operator_numbered.Tie as tie
 
 returns : tie.Need-returns
 unfolding operatorNumbered listed
@@ -127,8 +127,8 @@ returns-31 : tie.Need-returns-31
 unfolding operatorNumbered listed
 returns-31 c = last (c .before .args .n) (c .match .rest)
 
-pub numbered-spec : {M : Type 1} → statement M
-numbered-spec =
+pub operator-numbered-spec : {M : Type 1} → statement M
+operator-numbered-spec =
     tie.close
     (tie.spec
     returns

@@ -1,7 +1,7 @@
 use borrow.Author.Needs.{needs}
 use Rattle.constraint.specs.File.{operandWord}
-use Rattle.judge.proofs.lines.word.Statement.{statement}
-use Rattle.judge.proofs.lines.word.Tie as tie
+use Rattle.judge.proofs.lines.operand_word.Statement.{statement}
+use Rattle.judge.proofs.lines.operand_word.Tie as tie
 
 enum-told : tie.Need-enum-told
 enum-told c = search needs
@@ -30,8 +30,8 @@ returns-3 : tie.Need-returns-3
 unfolding operandWord
 returns-3 c = rw (c .before .o2 .given .1)
 
-pub word-spec : {M : Type 1} → statement M
-word-spec =
+pub operand-word-spec : {M : Type 1} → statement M
+operand-word-spec =
     tie.close
     (tie.spec
     enum-told

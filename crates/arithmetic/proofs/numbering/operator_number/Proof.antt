@@ -1,7 +1,7 @@
 use Rattle.arithmetic.specs.Numbering.{operatorNumber}
 use borrow.Author.Needs.{needs}
-use Rattle.arithmetic.proofs.numbering.number.Statement.{statement}
-use Rattle.arithmetic.proofs.numbering.number.Tie as tie
+use Rattle.arithmetic.proofs.numbering.operator_number.Statement.{statement}
+use Rattle.arithmetic.proofs.numbering.operator_number.Tie as tie
 
 enum-known-op : tie.Need-enum-known-op
 enum-known-op c = search needs
@@ -105,8 +105,8 @@ returns-12 : tie.Need-returns-12
 unfolding operatorNumber
 returns-12 c = rw (c .enum-told6 .given .1)
 
-pub number-spec : {M : Type 1} → statement M
-number-spec =
+pub operator-number-spec : {M : Type 1} → statement M
+operator-number-spec =
     tie.close
     (tie.spec
     enum-known-op

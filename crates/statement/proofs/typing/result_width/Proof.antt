@@ -1,7 +1,7 @@
-use Rattle.constraint.specs.TypeRules.{ruleWord}
+use Rattle.constraint.specs.TypeRules.{resultWidth}
 use borrow.Author.Needs.{needs}
-use Rattle.statement.proofs.typing.word.Statement.{statement}
-use Rattle.statement.proofs.typing.word.Tie as tie
+use Rattle.statement.proofs.typing.result_width.Statement.{statement}
+use Rattle.statement.proofs.typing.result_width.Tie as tie
 
 enum-told : tie.Need-enum-told
 enum-told c = search needs
@@ -16,18 +16,18 @@ enum-known-o-2 : tie.Need-enum-known-o-2
 enum-known-o-2 c = search needs
 
 returns : tie.Need-returns
-unfolding ruleWord
+unfolding resultWidth
 returns c = rw (c .enum-told .given .1)
 
 returns-2 : tie.Need-returns-2
-unfolding ruleWord
-returns-2 c = rw (c .before .before .o .given .1, c .width-of .ensures)
+unfolding resultWidth
+returns-2 c = rw (c .before .before .o .given .1) (c .width-of .ensures)
 
 returns-3 : tie.Need-returns-3
-unfolding ruleWord
+unfolding resultWidth
 returns-3 c = rw (c .before .o2 .given .1)
 
-pub word-spec : {M : Type 1} → statement M
-word-spec =
+pub result-width-spec : {M : Type 1} → statement M
+result-width-spec =
     tie.close
     (tie.spec enum-told enum-known-o width-of-requires enum-known-o-2 returns returns-2 returns-3)
