@@ -29,11 +29,11 @@ use Rattle.arithmetic.specs.Signed.{signed, quotient}
 use Rattle.arithmetic.specs.Flags.{compared}
 use Rattle.arithmetic.specs.Arithmetic.{computed, divided, shifted, extended}
 use Rattle.arithmetic.specs.Meaning.{truth, valueOf, meaning}
-use Rattle.arithmetic.specs.Given.{Given, Wider, Joined}
+use Rattle.arithmetic.specs.Evaluable.{Evaluable, Wider, Joined}
 use Rattle.arithmetic.specs.Claims.{zeroDivisor, HasResult}
 use Rattle.arithmetic.proofs.PlaceLaws.{combined-lt, inverted-lt}
 use Rattle.arithmetic.proofs.ModuloLaws.{modulo-lt}
-use Rattle.arithmetic.proofs.RuleLaws.{given}
+use Rattle.arithmetic.proofs.RuleLaws.{evaluable}
 
 truth-lt : (t : Bool) → truth t < 2 ^ i1
 truth-lt true = lit< tt
@@ -71,7 +71,7 @@ joined-lt : (k x y a b : ℕ) → Joined k x y a b → a * 2 ^ y + b < 2 ^ k
 joined-lt k x y a b g = rw (g .both, pow-add 2 x y) (digits-lt (g .bound) (g .bound₂))
 
 -- the value of operands that keep their rule
-value-within : (op : Operator) (k : ℕ) (a b c : Word) → Given op k a b c → zeroDivisor op b ≡ false → (r : ℕ) × (valueOf op k a b c ≡ some r) × (r < 2 ^ k)
+value-within : (op : Operator) (k : ℕ) (a b c : Word) → Evaluable op k a b c → zeroDivisor op b ≡ false → (r : ℕ) × (valueOf op k a b c ≡ some r) × (r < 2 ^ k)
 unfolding zeroDivisor valueOf
 value-within (Combine o) k a b c g z = (combined o k (a .value) (b .value), refl, combined-lt o k (a .value) (b .value) (g .bound) (g .bound₂))
 value-within Not k a b c g z = (inverted k (a .value), refl, inverted-lt k (a .value) (g .bound))
@@ -115,5 +115,5 @@ meaning-is op k a b c w t = rw (w, t)
 pub results-fit : (op : Operator) (k : ℕ) (a b c : Word) → widthsHold op k a b c ≡ true → typed op k a b c ≡ true → operandsFit op a b c ≡ true → HasResult op k a b c
 results-fit op k a b c w t v = record {
   missing = rw (meaning-is op k a b c w t) (value-missing op k a b c);
-  within = rw (meaning-is op k a b c w t) (value-within op k a b c (given op k a b c w t v));
+  within = rw (meaning-is op k a b c w t) (value-within op k a b c (evaluable op k a b c w t v));
 }

@@ -18,7 +18,7 @@ use Rattle.arithmetic.specs.declared.Operator.the-variants.{Combine, Not
 use Rattle.arithmetic.specs.declared.Bitwise.{Bitwise}
 use Rattle.arithmetic.specs.declared.Word.{Word}
 use Rattle.arithmetic.specs.Rules.{arity, maxOperands, operandsTaken, widthsHold, fits, operandsFit, is, joins, cuts, typed, i1, i8}
-use Rattle.arithmetic.specs.Given.{IsWidth, NumbersOfBits, Given}
+use Rattle.arithmetic.specs.Evaluable.{IsWidth, NumbersOfBits, Evaluable}
 
 -- each of a list's tests
 abbrev Each : {A : Type 0} → (A → Bool) → List A → Type 0
@@ -73,35 +73,35 @@ operand-widths : (k : ℕ) (ws : List Word) → (isWidth k && every hasWidth ws)
 operand-widths k ws e = each hasWidth ws (and-true (isWidth k) (every hasWidth ws) e .1)
 
 -- operands that pass the three tests keep the rule
-pub given : (op : Operator) (k : ℕ) (a b c : Word) → widthsHold op k a b c ≡ true → typed op k a b c ≡ true → operandsFit op a b c ≡ true → Given op k a b c
+pub evaluable : (op : Operator) (k : ℕ) (a b c : Word) → widthsHold op k a b c ≡ true → typed op k a b c ≡ true → operandsFit op a b c ≡ true → Evaluable op k a b c
 unfolding widthsHold typed operandsFit arity joins cuts
-given (Combine o) k a b c w t v = alike k a b (result-width k (a ∷ b ∷ []) w) (and-true (is k a) (is k b) t) (each fits (a ∷ b ∷ []) v)
-given Not k a b c w t v =
+evaluable (Combine o) k a b c w t v = alike k a b (result-width k (a ∷ b ∷ []) w) (and-true (is k a) (is k b) t) (each fits (a ∷ b ∷ []) v)
+evaluable Not k a b c w t v =
     let r = result-width k (a ∷ []) w in
     record { least = r .least; most = r .most; bound = fits-at k a t (each fits (a ∷ []) v .0) }
-given Implies k a b c w t v =
+evaluable Implies k a b c w t v =
     let p = and-true (eqb k i1 && is i1 a) (is i1 b) t in
     let q = and-true (eqb k i1) (is i1 a) (p .0) in
     subst (λ (n : ℕ). NumbersOfBits n (a .value) (b .value)) (sym (eqb-true k i1 (q .0))) (alike i1 a b width-one (q .1, p .1) (each fits (a ∷ b ∷ []) v))
-given (Compare o) k a b c w t v =
+evaluable (Compare o) k a b c w t v =
     let p = and-true (eqb k i1) (is (b .width) a) t in
     (eqb-true k i1 (p .0), matched a b (width-is (a .width) (operand-widths k (a ∷ b ∷ []) w .0)) (p .1) (each fits (a ∷ b ∷ []) v))
-given Ite k a b c w t v =
+evaluable Ite k a b c w t v =
     let p = and-true (is i1 a && is k b) (is k c) t in
     let q = and-true (is i1 a) (is k b) (p .0) in
     let f = each fits (a ∷ b ∷ c ∷ []) v in
     record { test = fits-at i1 a (q .0) (f .0); bound = fits-at k b (q .1) (f .1 .0); bound₂ = fits-at k c (p .1) (f .1 .1 .0) }
-given (Compute o) k a b c w t v = alike k a b (result-width k (a ∷ b ∷ []) w) (and-true (is k a) (is k b) t) (each fits (a ∷ b ∷ []) v)
-given (Divide o) k a b c w t v = alike k a b (result-width k (a ∷ b ∷ []) w) (and-true (is k a) (is k b) t) (each fits (a ∷ b ∷ []) v)
-given (Move o) k a b c w t v =
+evaluable (Compute o) k a b c w t v = alike k a b (result-width k (a ∷ b ∷ []) w) (and-true (is k a) (is k b) t) (each fits (a ∷ b ∷ []) v)
+evaluable (Divide o) k a b c w t v = alike k a b (result-width k (a ∷ b ∷ []) w) (and-true (is k a) (is k b) t) (each fits (a ∷ b ∷ []) v)
+evaluable (Move o) k a b c w t v =
     let r = result-width k (a ∷ b ∷ []) w in
     let p = and-true (is k a) (is i8 b) t in
     record { least = r .least; most = r .most; bound = fits-at k a (p .0) (each fits (a ∷ b ∷ []) v .0) }
-given Trun k a b c w t v = result-width k (a ∷ []) w
-given (Extend o) k a b c w t v =
+evaluable Trun k a b c w t v = result-width k (a ∷ []) w
+evaluable (Extend o) k a b c w t v =
     let x = width-is (a .width) (operand-widths k (a ∷ []) w .0) in
     record { least = x .least; wider = ltb-true (a .width) k t; most = result-width k (a ∷ []) w .most; bound = fits-is a (each fits (a ∷ []) v .0) }
-given Conc k a b c w t v =
+evaluable Conc k a b c w t v =
     let p = and-true (eqb k (a .width + b .width)) (leb k maxWidth) t in
     let x = operand-widths k (a ∷ b ∷ []) w in
     let f = each fits (a ∷ b ∷ []) v in
@@ -113,7 +113,7 @@ given Conc k a b c w t v =
       bound = fits-is a (f .0);
       bound₂ = fits-is b (f .1 .0);
     }
-given Extr k a b c w t v =
+evaluable Extr k a b c w t v =
     let p = and-true (is i8 b && is i8 c) (cuts k (a .width) (b .value) (c .value)) t in
     let q = and-true (ltb (b .value) (c .value) && leb (c .value) (a .width)) (eqb k (c .value - b .value)) (p .1) in
     let r = and-true (ltb (b .value) (c .value)) (leb (c .value) (a .width)) (q .0) in

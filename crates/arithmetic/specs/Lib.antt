@@ -4,7 +4,7 @@ pub mod Signed
 pub mod Flags
 pub mod Arithmetic
 pub mod Meaning
-pub mod Given
+pub mod Evaluable
 pub mod Cases
 pub mod Claims
 pub mod Numbering

@@ -17,7 +17,7 @@ use Rattle.text.specs.Bytes.{same}
 use Rattle.text.proofs.NameLaws.{same-self, same-false}
 use Rattle.constraint.specs.File.{Variable, variableNamed, widthAt}
 use Rattle.constraint.specs.Sound.{Each, SoundVariable, Distinct}
-use Rattle.arithmetic.specs.Given.{IsWidth}
+use Rattle.arithmetic.specs.Evaluable.{IsWidth}
 use Rattle.constraint.proofs.EachLaws.{each-map, each-at, each-fails}
 
 -- a width passes the test

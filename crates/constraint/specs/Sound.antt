@@ -8,7 +8,7 @@ use Rattle.edition.specs.declared.Edition.{Edition}
 use Rattle.edition.specs.Edition.{maxVariables, maxLines, maxNameBytes}
 use Rattle.refusal.specs.Result.{accepted}
 use Rattle.arithmetic.specs.Rules.{widthsHold}
-use Rattle.arithmetic.specs.Given.{IsWidth}
+use Rattle.arithmetic.specs.Evaluable.{IsWidth}
 use Rattle.text.specs.Spelling.{isName}
 use Rattle.constraint.specs.declared.Operand.{Operand}
 use Rattle.constraint.specs.declared.Operand.the-variants.{Absent, Var, Const}

@@ -3,7 +3,7 @@ use super::widths::mask;
 use arithmetic::Bitwise;
 ghost use mathlib.Core.Path.{_≡_};
 ghost use Rattle.arithmetic.specs.Bits.{combined, inverted};
-ghost use Rattle.arithmetic.specs.Given.{NumberOfBits, NumbersOfBits};
+ghost use Rattle.arithmetic.specs.Evaluable.{NumberOfBits, NumbersOfBits};
 
 pub(crate) fn combine(o: Bitwise, k: u64, a: u64, b: u64) -> u64
     requires { ⌜ NumbersOfBits k a b ⌝ }

@@ -6,7 +6,7 @@ ghost use mathlib.Core.Path.{_≡_};
 ghost use Prim.Native.Nat.{_+_, _*_, _^_};
 ghost use Rattle.arithmetic.specs.declared.Extension.the-variants.{Sext};
 ghost use Rattle.arithmetic.specs.Arithmetic.{extended};
-ghost use Rattle.arithmetic.specs.Given.{Wider, Joined};
+ghost use Rattle.arithmetic.specs.Evaluable.{Wider, Joined};
 
 // From x bits to k bits.
 fn sign_extend(x: u64, k: u64, a: u64) -> u64

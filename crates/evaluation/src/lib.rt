@@ -15,7 +15,7 @@ ghost use mathlib.Core.Path.{_≡_};
 ghost use mathlib.Core.Bool.{cond};
 ghost use lib.Dec.{eqb};
 ghost use Rattle.arithmetic.specs.Meaning.{truth as truthOf, valueOf};
-ghost use Rattle.arithmetic.specs.Given.{Given};
+ghost use Rattle.arithmetic.specs.Evaluable.{Evaluable};
 ghost use Rattle.evaluation.specs.Evaluate.{evaluated};
 
 mod bits;
@@ -47,7 +47,7 @@ fn choose(a: u64, b: u64, c: u64) -> u64
 
 // The result of width k.
 pub fn evaluate(op: Operator, k: u64, a: Word, b: Word, c: Word) -> Evaluated
-    requires { ⌜ Given op k a b c ⌝ }
+    requires { ⌜ Evaluable op k a b c ⌝ }
     ensures { λ r. ⌜ r ≡ evaluated (valueOf op k a b c) ⌝ }
 {
     let i = a.width;

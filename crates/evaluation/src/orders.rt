@@ -5,7 +5,7 @@ use arithmetic::Comparison;
 ghost use mathlib.Core.Path.{_≡_};
 ghost use Prim.Native.Nat.{_+_, _-_, _%_, _^_};
 ghost use Rattle.arithmetic.specs.Flags.{compared};
-ghost use Rattle.arithmetic.specs.Given.{IsWidth, NumbersOfBits};
+ghost use Rattle.arithmetic.specs.Evaluable.{IsWidth, NumbersOfBits};
 
 // Signed order is the unsigned order of numbers with the top bit turned over.
 fn biased(k: u64, a: u64) -> u64

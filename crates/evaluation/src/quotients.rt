@@ -10,7 +10,7 @@ ghost use lib.IntN.{pos, negℤ, natAbs};
 ghost use Rattle.arithmetic.specs.declared.Division.the-variants.{Sdiv, Srem};
 ghost use Rattle.arithmetic.specs.Signed.{signed, modulo, ceiling};
 ghost use Rattle.arithmetic.specs.Arithmetic.{divided};
-ghost use Rattle.arithmetic.specs.Given.{NumberOfBits, NumbersOfBits};
+ghost use Rattle.arithmetic.specs.Evaluable.{NumberOfBits, NumbersOfBits};
 
 // The magnitude of the signed reading.
 fn magnitude(k: u64, a: u64) -> u64

@@ -6,7 +6,7 @@ use arithmetic::Shift;
 ghost use mathlib.Core.Path.{_≡_};
 ghost use Rattle.arithmetic.specs.declared.Shift.the-variants.{Shl, Ashr, Lshr};
 ghost use Rattle.arithmetic.specs.Arithmetic.{shifted};
-ghost use Rattle.arithmetic.specs.Given.{NumberOfBits};
+ghost use Rattle.arithmetic.specs.Evaluable.{NumberOfBits};
 
 fn left(k: u64, a: u64, n: u64) -> u64
     requires { ⌜ NumberOfBits k a ⌝ }

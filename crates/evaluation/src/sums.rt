@@ -5,7 +5,7 @@ ghost use mathlib.Core.Path.{_≡_};
 ghost use Prim.Native.Nat.{_*_, _%_, _^_};
 ghost use Rattle.edition.specs.Word.{wordBits};
 ghost use Rattle.arithmetic.specs.Arithmetic.{computed};
-ghost use Rattle.arithmetic.specs.Given.{NumbersOfBits};
+ghost use Rattle.arithmetic.specs.Evaluable.{NumbersOfBits};
 
 // a * b modulo the size of a word, from products of halves, which fit a word.
 fn product(a: u64, b: u64) -> u64

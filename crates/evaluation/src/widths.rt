@@ -2,7 +2,7 @@
 use edition::WORD_BITS;
 ghost use mathlib.Core.Path.{_≡_};
 ghost use Prim.Native.Nat.{_-_, _%_, _^_};
-ghost use Rattle.arithmetic.specs.Given.{IsWidth};
+ghost use Rattle.arithmetic.specs.Evaluable.{IsWidth};
 
 // 2^k - 1, the largest number of k bits.
 pub(crate) fn mask(k: u64) -> u64

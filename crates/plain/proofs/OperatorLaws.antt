@@ -14,7 +14,7 @@ use Rattle.refusal.proofs.BoolLaws.{and-true}
 use Rattle.arithmetic.specs.declared.Operator.{Operator}
 use Rattle.text.specs.Bytes.{same}
 use Rattle.text.proofs.NameLaws.{same-self, same-true}
-use Rattle.spelling.specs.Operators.{bitwise, predicates, arithmetic, shiftsAndCasts, spellings, operatorSpelt, operatorNamed}
+use Rattle.spelling.specs.Operators.{bitwiseSpellings, predicateSpellings, arithmeticSpellings, shiftAndCastSpellings, spellings, operatorSpelt, operatorNamed}
 use Rattle.plain.specs.Says.{SpellsOperator}
 
 -- whether no spelling of a table is that of a later entry
@@ -23,7 +23,7 @@ unlike [] = true
 unlike (x ∷ xs) = every (λ y. not (same (ascii (x .0)) (ascii (y .0)))) xs && unlike xs
 
 all-unlike : (e : Edition) → unlike (spellings e) ≡ true
-unfolding spellings bitwise predicates arithmetic shiftsAndCasts every same
+unfolding spellings bitwiseSpellings predicateSpellings arithmeticSpellings shiftAndCastSpellings every same
 all-unlike e = refl
 
 -- what is found is an entry

@@ -26,7 +26,7 @@ use Rattle.constraint.specs.File.{Variable, File, editionOf, nameAt}
 use Rattle.constraint.specs.TypeRules.{wellTyped}
 use Rattle.constraint.specs.Read.{maxVersionDigits}
 use Rattle.constraint.specs.Sound.{Each, SoundVariable, Distinct}
-use Rattle.arithmetic.specs.Given.{IsWidth}
+use Rattle.arithmetic.specs.Evaluable.{IsWidth}
 
 -- TOKENS, by their bytes alone
 

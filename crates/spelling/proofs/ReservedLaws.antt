@@ -13,7 +13,7 @@ use Rattle.arithmetic.specs.declared.Operator.{Operator}
 use Rattle.text.specs.Bytes.{same, isLetter, isDigit, isNameByte}
 use Rattle.text.specs.Spelling.{isName}
 use Rattle.text.proofs.NameLaws.{same-true}
-use Rattle.spelling.specs.Operators.{bitwise, predicates, arithmetic, shiftsAndCasts, spellings, operatorSpelt, reservedWords, isOneOfWords}
+use Rattle.spelling.specs.Operators.{bitwiseSpellings, predicateSpellings, arithmeticSpellings, shiftAndCastSpellings, spellings, operatorSpelt, reservedWords, isOneOfWords}
 use Rattle.spelling.specs.Claims.{ReservedExactly}
 
 -- the spellings of a table that are names
@@ -35,7 +35,7 @@ name-spelt s h (x ∷ xs) = go (isName (ascii (x .0))) refl (same (ascii (x .0))
 
 -- they are the words that are listed
 listed : (e : Edition) → nameWords (spellings e) ≡ reservedWords e
-unfolding nameWords spellings bitwise predicates arithmetic shiftsAndCasts reservedWords isName every isLetter isDigit isNameByte
+unfolding nameWords spellings bitwiseSpellings predicateSpellings arithmeticSpellings shiftAndCastSpellings reservedWords isName every isLetter isDigit isNameByte
 listed e = refl
 
 pub reserved-exactly : ReservedExactly

@@ -10,8 +10,8 @@ use Rattle.refusal.specs.SubjectWords.{ascii}
 use Rattle.arithmetic.specs.declared.Operator.{Operator}
 use Rattle.text.specs.Bytes.{same}
 use Rattle.spelling.specs.declared.Spelt.{Spelt}
-use Rattle.spelling.specs.declared.Spelt.the-variants.{Is, Unknown}
-use Rattle.spelling.specs.Operators.{bitwise, predicates, arithmetic, shiftsAndCasts, spellings, operatorSpelt, operatorNamed}
+use Rattle.spelling.specs.declared.Spelt.the-variants.{Is, Nothing}
+use Rattle.spelling.specs.Operators.{bitwiseSpellings, predicateSpellings, arithmeticSpellings, shiftAndCastSpellings, spellings, operatorSpelt, operatorNamed}
 use Rattle.spelling.specs.Internal.{spelling, orSpelt, ifWord}
 
 infixl 20 _then_
@@ -20,16 +20,16 @@ pub record Tested (s : List ℕ) (found : Spelt) (xs rest : List (String × Oper
   pub agrees : orElse (spelling found) (operatorSpelt s xs) ≡ orElse (spelling r) (operatorSpelt s rest)
 
 -- with one test more, and with none
-one-more : (s : List ℕ) (w : String) (op : Operator) (rest : List (String × Operator)) (r : Spelt) (b : Bool) → same (ascii w) s ≡ b → orElse (spelling r) (operatorSpelt s ((w, op) ∷ rest)) ≡ orElse (spelling (orSpelt r (cond b (Is op) Unknown))) (operatorSpelt s rest)
+one-more : (s : List ℕ) (w : String) (op : Operator) (rest : List (String × Operator)) (r : Spelt) (b : Bool) → same (ascii w) s ≡ b → orElse (spelling r) (operatorSpelt s ((w, op) ∷ rest)) ≡ orElse (spelling (orSpelt r (cond b (Is op) Nothing))) (operatorSpelt s rest)
 unfolding operatorSpelt orElse
 one-more s w op rest (Is found) b e = refl
-one-more s w op rest Unknown true e = rw e
-one-more s w op rest Unknown false e = rw e
+one-more s w op rest Nothing true e = rw e
+one-more s w op rest Nothing false e = rw e
 
 none-more : (r : Spelt) → orElse (spelling r) none ≡ spelling r
 unfolding orElse
 none-more (Is found) = refl
-none-more Unknown = refl
+none-more Nothing = refl
 
 -- before the first test
 pub untested : (s : List ℕ) (found : Spelt) (xs : List (String × Operator)) → Tested s found xs xs found
@@ -62,6 +62,6 @@ module _ (s : List ℕ) where
   appended xs ys a b p q = q ∙ ap (λ (o : Option Operator). orElse o (operatorSpelt s ys)) p ∙ sym (spelt-append s xs ys)
 
   -- the operator, by the four lists
-  pub operator-is : (e : Edition) (a b c d : Spelt) → spelling a ≡ orElse (spelling Unknown) (operatorSpelt s bitwise) → spelling b ≡ orElse (spelling a) (operatorSpelt s predicates) → spelling c ≡ orElse (spelling b) (operatorSpelt s arithmetic) → spelling d ≡ orElse (spelling c) (operatorSpelt s shiftsAndCasts) → spelling d ≡ operatorNamed e s
+  pub operator-is : (e : Edition) (a b c d : Spelt) → spelling a ≡ orElse (spelling Nothing) (operatorSpelt s bitwiseSpellings) → spelling b ≡ orElse (spelling a) (operatorSpelt s predicateSpellings) → spelling c ≡ orElse (spelling b) (operatorSpelt s arithmeticSpellings) → spelling d ≡ orElse (spelling c) (operatorSpelt s shiftAndCastSpellings) → spelling d ≡ operatorNamed e s
   unfolding spellings orElse
   operator-is e a b c d p q r t = appended _ _ c d (appended _ _ b c (appended _ _ a b p q) r) t

@@ -18,31 +18,31 @@ use Rattle.refusal.specs.SubjectWords.{ascii}
 use Rattle.text.specs.Bytes.{same}
 
 -- the spellings, by 003's sections: 7.1
-unfoldable pub bitwise : List (String × Operator)
-bitwise = ("&", Combine And) ∷ ("|", Combine Or) ∷ ("^", Combine Xor) ∷ ("~", Not) ∷ []
+unfoldable pub bitwiseSpellings : List (String × Operator)
+bitwiseSpellings = ("&", Combine And) ∷ ("|", Combine Or) ∷ ("^", Combine Xor) ∷ ("~", Not) ∷ []
 
 -- 7.2
-unfoldable pub predicates : List (String × Operator)
-predicates =
+unfoldable pub predicateSpellings : List (String × Operator)
+predicateSpellings =
     ("=>", Implies) ∷ ("=", Compare Equal) ∷ ("/=", Compare NotEqual)
     ∷ ("ule", Compare Ule) ∷ ("uge", Compare Uge) ∷ ("ult", Compare Ult) ∷ ("ugt", Compare Ugt)
     ∷ ("sle", Compare Sle) ∷ ("sge", Compare Sge) ∷ ("slt", Compare Slt) ∷ ("sgt", Compare Sgt) ∷ []
 
 -- 7.3 and 7.4
-unfoldable pub arithmetic : List (String × Operator)
-arithmetic =
+unfoldable pub arithmeticSpellings : List (String × Operator)
+arithmeticSpellings =
     ("ite", Ite) ∷ ("+", Compute Add) ∷ ("-", Compute Sub) ∷ ("*", Compute Mul)
     ∷ ("/u", Divide Udiv) ∷ ("/s", Divide Sdiv) ∷ ("%u", Divide Urem) ∷ ("%s", Divide Srem) ∷ []
 
 -- 7.5 and 7.6
-unfoldable pub shiftsAndCasts : List (String × Operator)
-shiftsAndCasts =
+unfoldable pub shiftAndCastSpellings : List (String × Operator)
+shiftAndCastSpellings =
     ("<<", Move Shl) ∷ (">>a", Move Ashr) ∷ (">>l", Move Lshr)
     ∷ ("trun", Trun) ∷ ("sext", Extend Sext) ∷ ("zext", Extend Zext) ∷ ("conc", Conc) ∷ ("extr", Extr) ∷ []
 
 -- the spellings of an edition's operators
 unfoldable pub spellings : Edition → List (String × Operator)
-spellings e = bitwise ++ predicates ++ arithmetic ++ shiftsAndCasts
+spellings e = bitwiseSpellings ++ predicateSpellings ++ arithmeticSpellings ++ shiftAndCastSpellings
 
 -- the operator of the first spelling that is s
 unfoldable pub operatorSpelt : List ℕ → List (String × Operator) → Option Operator

@@ -12,7 +12,7 @@ ghost use mathlib.Core.Option.{orElse};
 ghost use Prim.Native.Nat.{_≤_};
 ghost use lib.ListN.{length, drop};
 ghost use Rattle.edition.specs.declared.Edition.{Edition};
-ghost use Rattle.spelling.specs.Operators.{bitwise as bitwiseList, predicates as predicateList, arithmetic as arithmeticList, shiftsAndCasts, operatorSpelt, operatorNamed, isReserved};
+ghost use Rattle.spelling.specs.Operators.{bitwiseSpellings, predicateSpellings, arithmeticSpellings, shiftAndCastSpellings, operatorSpelt, operatorNamed, isReserved};
 ghost use Rattle.spelling.specs.Internal.{spelling, orSpelt, ifWord};
 
 pub mod claims;
@@ -20,7 +20,7 @@ pub mod claims;
 // The operator that a text spells.
 pub enum Spelt {
     Is(Operator),
-    Unknown,
+    Nothing,
 }
 
 // What is found already, else the operator, if the bytes from `at` to the end are its word.
@@ -30,10 +30,10 @@ fn or_word(found: Spelt, text: &[u8], at: usize, word: &[u8], op: Operator) -> S
 {
     match found {
         Spelt::Is(before) => Spelt::Is(before),
-        Spelt::Unknown => if is_word(text, at, word) {
+        Spelt::Nothing => if is_word(text, at, word) {
             Spelt::Is(op)
         } else {
-            Spelt::Unknown
+            Spelt::Nothing
         },
     }
 }
@@ -41,7 +41,7 @@ fn or_word(found: Spelt, text: &[u8], at: usize, word: &[u8], op: Operator) -> S
 // What is found already, else the operator of the first word of a list that the bytes are: one function for each list.
 fn bitwise(found: Spelt, text: &[u8], at: usize) -> Spelt
     requires { ⌜ at ≤ length (now text) ⌝ }
-    ensures { λ r. ⌜ spelling r ≡ orElse (spelling found) (operatorSpelt (drop at (now (text .entry))) bitwiseList) ⌝ }
+    ensures { λ r. ⌜ spelling r ≡ orElse (spelling found) (operatorSpelt (drop at (now (text .entry))) bitwiseSpellings) ⌝ }
 {
     let found = or_word(found, text, at, b"&", Operator::Combine(Bitwise::And));
     let found = or_word(found, text, at, b"|", Operator::Combine(Bitwise::Or));
@@ -51,7 +51,7 @@ fn bitwise(found: Spelt, text: &[u8], at: usize) -> Spelt
 
 fn predicates(found: Spelt, text: &[u8], at: usize) -> Spelt
     requires { ⌜ at ≤ length (now text) ⌝ }
-    ensures { λ r. ⌜ spelling r ≡ orElse (spelling found) (operatorSpelt (drop at (now (text .entry))) predicateList) ⌝ }
+    ensures { λ r. ⌜ spelling r ≡ orElse (spelling found) (operatorSpelt (drop at (now (text .entry))) predicateSpellings) ⌝ }
 {
     let found = or_word(found, text, at, b"=>", Operator::Implies);
     let found = or_word(found, text, at, b"=", Operator::Compare(Comparison::Equal));
@@ -74,7 +74,7 @@ fn predicates(found: Spelt, text: &[u8], at: usize) -> Spelt
 
 fn arithmetic(found: Spelt, text: &[u8], at: usize) -> Spelt
     requires { ⌜ at ≤ length (now text) ⌝ }
-    ensures { λ r. ⌜ spelling r ≡ orElse (spelling found) (operatorSpelt (drop at (now (text .entry))) arithmeticList) ⌝ }
+    ensures { λ r. ⌜ spelling r ≡ orElse (spelling found) (operatorSpelt (drop at (now (text .entry))) arithmeticSpellings) ⌝ }
 {
     let found = or_word(found, text, at, b"ite", Operator::Ite);
     let found = or_word(found, text, at, b"+", Operator::Compute(Arithmetic::Add));
@@ -88,7 +88,7 @@ fn arithmetic(found: Spelt, text: &[u8], at: usize) -> Spelt
 
 fn shifts_and_casts(found: Spelt, text: &[u8], at: usize) -> Spelt
     requires { ⌜ at ≤ length (now text) ⌝ }
-    ensures { λ r. ⌜ spelling r ≡ orElse (spelling found) (operatorSpelt (drop at (now (text .entry))) shiftsAndCasts) ⌝ }
+    ensures { λ r. ⌜ spelling r ≡ orElse (spelling found) (operatorSpelt (drop at (now (text .entry))) shiftAndCastSpellings) ⌝ }
 {
     let found = or_word(found, text, at, b"<<", Operator::Move(Shift::Shl));
     let found = or_word(found, text, at, b">>a", Operator::Move(Shift::Ashr));
@@ -105,7 +105,7 @@ pub fn operator_at(text: &[u8], at: usize) -> Spelt
     requires { ⌜ at ≤ length (now text) ⌝ }
     ensures { λ r. ⌜ ((e : Edition) → spelling r ≡ operatorNamed e (drop at (now (text .entry)))) ⌝ }
 {
-    let found = bitwise(Spelt::Unknown, text, at);
+    let found = bitwise(Spelt::Nothing, text, at);
     let found = predicates(found, text, at);
     let found = arithmetic(found, text, at);
     shifts_and_casts(found, text, at)
@@ -117,6 +117,6 @@ pub fn is_reserved(text: &[u8], at: usize) -> bool
 {
     match operator_at(text, at) {
         Spelt::Is(_) => true,
-        Spelt::Unknown => false,
+        Spelt::Nothing => false,
     }
 }

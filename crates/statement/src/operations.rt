@@ -194,7 +194,7 @@ fn operation<'a>(
             let start = t.start;
             let stop = t.stop;
             match operator_at(&line[..stop], start) {
-                Spelt::Unknown => LineRead::NoLine(refusal(Refusal::UNKNOWN_OPERATOR, start)),
+                Spelt::Nothing => LineRead::NoLine(refusal(Refusal::UNKNOWN_OPERATOR, start)),
                 Spelt::Is(op) => match take_operands(
                     file,
                     starts,

@@ -17,7 +17,7 @@ use Rattle.text.specs.Spelling.{isName, isNumeral, decimalFrom, leadingZero, is
 use Rattle.text.specs.Reading.{readAnyLine, readLines, readText}
 use Rattle.constraint.specs.File.{variableNamed, widthAt, operandWord, target}
 use Rattle.constraint.specs.TypeRules.{ruleWord, resultWidth, constantRule, predicateRule, wellTyped}
-use Rattle.spelling.specs.Operators.{bitwise, predicates, arithmetic, shiftsAndCasts, spellings, operatorSpelt}
+use Rattle.spelling.specs.Operators.{bitwiseSpellings, predicateSpellings, arithmeticSpellings, shiftAndCastSpellings, spellings, operatorSpelt}
 use Rattle.constraint.specs.Read.{inHeader, readSingle, versionOf, readVersion, declare, declareAll, readDeclarations, readVariable, readOperand, nextOperand, readOperands, readOperation, nextOutput, readStatement, kindOf, readAs, readLine, readFile}
 use Rattle.judge.specs.declared.Overall.the-variants.{Satisfied}
 use Rattle.judge.specs.Judge.{resultOf, judge, verdictsOf, firstVerdict, overallOf}
@@ -34,7 +34,7 @@ abbrev exampleAnswer : List ℕ
 exampleAnswer = ascii "s SATISFIABLE\nv hi=17056 lo=17060 r=1117799076\n"
 
 example-satisfied : checkOutcome example exampleAnswer (0 ∷ 0 ∷ 0 ∷ []) (0 ∷ []) .reply ≡ Checked Satisfied
-unfolding editionNumbered isWidth every firstFrom arity widthsHold joins typed valueOf meaning same frontOf isSpace isLineFeed isAllowed isDigit isLetter isNameByte lineOf linesFrom tokenOf tokensFrom leads isName isNumeral decimalFrom leadingZero isType upTo behind readAnyLine readLines readText variableNamed widthAt operandWord target ruleWord resultWidth constantRule predicateRule wellTyped bitwise predicates arithmetic shiftsAndCasts spellings operatorSpelt inHeader readSingle versionOf readVersion declare declareAll readDeclarations readVariable readOperand nextOperand readOperands readOperation nextOutput readStatement kindOf readAs readLine readFile resultOf judge verdictsOf firstVerdict overallOf answer.solutionOf answer.readWord answer.readSolution answer.settingOf answer.readSetting answer.readSettings answer.readValues answer.answerKind answer.readAnswerAs answer.readAnswerLine answer.allSet answer.readAnswer checkingFor checking
+unfolding editionNumbered isWidth every firstFrom arity widthsHold joins typed valueOf meaning same frontOf isSpace isLineFeed isAllowed isDigit isLetter isNameByte lineOf linesFrom tokenOf tokensFrom leads isName isNumeral decimalFrom leadingZero isType upTo behind readAnyLine readLines readText variableNamed widthAt operandWord target ruleWord resultWidth constantRule predicateRule wellTyped bitwiseSpellings predicateSpellings arithmeticSpellings shiftAndCastSpellings spellings operatorSpelt inHeader readSingle versionOf readVersion declare declareAll readDeclarations readVariable readOperand nextOperand readOperands readOperation nextOutput readStatement kindOf readAs readLine readFile resultOf judge verdictsOf firstVerdict overallOf answer.solutionOf answer.readWord answer.readSolution answer.settingOf answer.readSetting answer.readSettings answer.readValues answer.answerKind answer.readAnswerAs answer.readAnswerLine answer.allSet answer.readAnswer checkingFor checking
 example-satisfied = refl
 
 -- empty files

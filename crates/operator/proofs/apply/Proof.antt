@@ -2,7 +2,7 @@
 use mathlib.Core.Path.{_≡_, sym, ap, _∙_}
 use mathlib.Core.Bool.{true}
 use Rattle.arithmetic.specs.Rules.{widthsHold, typed, operandsFit}
-use Rattle.arithmetic.proofs.RuleLaws.{passed, failed, given}
+use Rattle.arithmetic.proofs.RuleLaws.{passed, failed, evaluable}
 use Rattle.operator.specs.Apply.{applyOutcome}
 use Rattle.operator.proofs.ApplyLaws.{passedOn, no-width, rule-broken, too-large, taken}
 use borrow.Author.Needs.{needs}
@@ -61,7 +61,7 @@ returns-3 c =
 evaluate-requires : tie.Need-evaluate-requires
 evaluate-requires c κs =
     let s = c .before .before .before .before .before .before .args in
-    given (s .op) (s .k) (s .a) (s .b) (s .c) (has-widths (c .before .before .before .before)) (is-typed (c .before .before)) (has-values c)
+    evaluable (s .op) (s .k) (s .a) (s .b) (s .c) (has-widths (c .before .before .before .before)) (is-typed (c .before .before)) (has-values c)
 
 enum-known-result : tie.Need-enum-known-result
 enum-known-result c = search needs

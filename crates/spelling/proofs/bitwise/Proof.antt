@@ -1,7 +1,7 @@
 -- `bitwise` meets its contract: its spellings are tested in order.
 use lib.ListN.{drop}
 use borrow.Author.Needs.{needs}
-use Rattle.spelling.specs.Operators.{bitwise}
+use Rattle.spelling.specs.Operators.{bitwiseSpellings}
 use Rattle.spelling.proofs.SpellingLaws.{untested, _then_, all-tested}
 use Rattle.spelling.proofs.bitwise.Statement.{statement}
 use Rattle.spelling.proofs.bitwise.Tie as tie
@@ -31,13 +31,13 @@ or-word-requires-4 : tie.Need-or-word-requires-4
 or-word-requires-4 c κs = search needs
 
 returns : tie.Need-returns
-unfolding bitwise
+unfolding bitwiseSpellings
 returns c =
     let c₃ = c .before .before in
     let c₂ = c₃ .before .before in
     let c₁ = c₂ .before .before in
     let a = c₁ .before .before .before .args in
-    all-tested (untested (drop (a .at) (a .text .now)) (a .found) bitwise then c₁ .or-word .ensures then c₂ .or-word2 .ensures then c₃ .or-word3 .ensures then c .or-word4 .ensures)
+    all-tested (untested (drop (a .at) (a .text .now)) (a .found) bitwiseSpellings then c₁ .or-word .ensures then c₂ .or-word2 .ensures then c₃ .or-word3 .ensures then c .or-word4 .ensures)
 
 pub bitwise-spec : {M : Type 1} → statement M
 bitwise-spec =

@@ -1,7 +1,7 @@
 -- `predicates` meets its contract: its spellings are tested in order.
 use lib.ListN.{drop}
 use borrow.Author.Needs.{needs}
-use Rattle.spelling.specs.Operators.{predicates}
+use Rattle.spelling.specs.Operators.{predicateSpellings}
 use Rattle.spelling.proofs.SpellingLaws.{untested, _then_, all-tested}
 use Rattle.spelling.proofs.predicates.Statement.{statement}
 use Rattle.spelling.proofs.predicates.Tie as tie
@@ -77,7 +77,7 @@ or-word-requires-11 : tie.Need-or-word-requires-11
 or-word-requires-11 c κs = start (c .before .before .before .before .before .before .before .before .before .before .before) .pre
 
 returns : tie.Need-returns
-unfolding predicates
+unfolding predicateSpellings
 returns c =
     let c₁₀ = c .before .before in
     let c₉ = c₁₀ .before .before in
@@ -90,7 +90,7 @@ returns c =
     let c₂ = c₃ .before .before in
     let c₁ = c₂ .before .before in
     let a = start c₅ .args in
-    all-tested (untested (drop (a .at) (a .text .now)) (a .found) predicates then c₁ .or-word .ensures then c₂ .or-word2 .ensures then c₃ .or-word3 .ensures then c₄ .or-word4 .ensures then c₅ .or-word5 .ensures then c₆ .or-word6 .ensures then c₇ .or-word7 .ensures then c₈ .or-word8 .ensures then c₉ .or-word9 .ensures then c₁₀ .or-word10 .ensures then c .or-word11 .ensures)
+    all-tested (untested (drop (a .at) (a .text .now)) (a .found) predicateSpellings then c₁ .or-word .ensures then c₂ .or-word2 .ensures then c₃ .or-word3 .ensures then c₄ .or-word4 .ensures then c₅ .or-word5 .ensures then c₆ .or-word6 .ensures then c₇ .or-word7 .ensures then c₈ .or-word8 .ensures then c₉ .or-word9 .ensures then c₁₀ .or-word10 .ensures then c .or-word11 .ensures)
 
 pub predicates-spec : {M : Type 1} → statement M
 predicates-spec =

@@ -2,7 +2,7 @@
 use mathlib.Core.Path.{_≡_, sym, ap, _∙_}
 use borrow.Author.Needs.{needs}
 use Rattle.store.specs.Tables.{lineIn}
-use Rattle.arithmetic.proofs.RuleLaws.{given}
+use Rattle.arithmetic.proofs.RuleLaws.{evaluable}
 use Rattle.store.specs.Tables.{unnamed}
 use Rattle.judge.proofs.VerdictLaws.{someResult, answer, judge-none, judge-holds, judge-violated}
 use Rattle.judge.proofs.lines.judge_line.Statement.{statement}
@@ -38,7 +38,7 @@ target-requires c κs = search needs
 evaluate-requires : tie.Need-evaluate-requires
 evaluate-requires c κs =
     let h = c .before .before .before .before .before .before .before .before .before .before .pre .3 in
-    rw (c .target .ensures, c .before .output-of .ensures, c .before .before .operand-word3 .ensures, c .before .before .before .third-of .ensures, c .before .before .before .before .operand-word2 .ensures, c .before .before .before .before .before .second-of .ensures, c .before .before .before .before .before .before .operand-word .ensures, c .before .before .before .before .before .before .before .first-of .ensures, c .before .before .before .before .before .before .before .before .operator-of .ensures) (given _ _ _ _ _ (h .widths) (h .rule) (h .fit))
+    rw (c .target .ensures, c .before .output-of .ensures, c .before .before .operand-word3 .ensures, c .before .before .before .third-of .ensures, c .before .before .before .before .operand-word2 .ensures, c .before .before .before .before .before .second-of .ensures, c .before .before .before .before .before .before .operand-word .ensures, c .before .before .before .before .before .before .before .first-of .ensures, c .before .before .before .before .before .before .before .before .operator-of .ensures) (evaluable _ _ _ _ _ (h .widths) (h .rule) (h .fit))
 
 -- what `evaluate` answers, said of the line
 told : (c : tie.After-evaluate) → let s = c .before .before .before .before .before .before .before .before .before .before .before .args in c .evaluate .result ≡ answer (unnamed (s .widths .now) (s .n)) (s .row .now) (lineIn (s .lines .now) (s .k))

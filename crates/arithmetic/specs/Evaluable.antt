@@ -1,4 +1,4 @@
--- The rule that an operator's operands keep, as plain facts: what an evaluation is given.
+-- The rule that an operator's operands keep, as plain facts: what an evaluation asks for.
 use Prim.Native.Nat.{ℕ, _+_, _-_, _^_, _≤_, _<_}
 use mathlib.Core.Path.{_≡_}
 use Rattle.edition.specs.Edition.{maxWidth}
@@ -54,17 +54,17 @@ pub record Cut (k n m : ℕ) : Type 0 where
   pub rising : n < m
   pub most : m ≤ maxWidth
 
--- the operands of a result of width k
-abbrev pub Given : Operator → ℕ → Word → Word → Word → Type 0
-Given (Combine o) k a b c = NumbersOfBits k (a .value) (b .value)
-Given Not k a b c = NumberOfBits k (a .value)
-Given Implies k a b c = NumbersOfBits k (a .value) (b .value)
-Given (Compare o) k a b c = (k ≡ i1) × NumbersOfBits (a .width) (a .value) (b .value)
-Given Ite k a b c = Choice k (a .value) (b .value) (c .value)
-Given (Compute o) k a b c = NumbersOfBits k (a .value) (b .value)
-Given (Divide o) k a b c = NumbersOfBits k (a .value) (b .value)
-Given (Move o) k a b c = NumberOfBits k (a .value)
-Given Trun k a b c = IsWidth k
-Given (Extend o) k a b c = Wider (a .width) k (a .value)
-Given Conc k a b c = Joined k (a .width) (b .width) (a .value) (b .value)
-Given Extr k a b c = Cut k (b .value) (c .value)
+-- operands that can be evaluated, with a result of width k
+abbrev pub Evaluable : Operator → ℕ → Word → Word → Word → Type 0
+Evaluable (Combine o) k a b c = NumbersOfBits k (a .value) (b .value)
+Evaluable Not k a b c = NumberOfBits k (a .value)
+Evaluable Implies k a b c = NumbersOfBits k (a .value) (b .value)
+Evaluable (Compare o) k a b c = (k ≡ i1) × NumbersOfBits (a .width) (a .value) (b .value)
+Evaluable Ite k a b c = Choice k (a .value) (b .value) (c .value)
+Evaluable (Compute o) k a b c = NumbersOfBits k (a .value) (b .value)
+Evaluable (Divide o) k a b c = NumbersOfBits k (a .value) (b .value)
+Evaluable (Move o) k a b c = NumberOfBits k (a .value)
+Evaluable Trun k a b c = IsWidth k
+Evaluable (Extend o) k a b c = Wider (a .width) k (a .value)
+Evaluable Conc k a b c = Joined k (a .width) (b .width) (a .value) (b .value)
+Evaluable Extr k a b c = Cut k (b .value) (c .value)
