@@ -1,14 +1,25 @@
--- "One case whole": the report's text, from the bytes of the two files.
+-- What is claimed of the report's text, from the bytes of the two files.
 use Prim.Native.Nat.{ℕ}
 use mathlib.Core.Path.{_≡_}
-use mathlib.Core.List.{List}
+use mathlib.Core.Logic.{_↔_}
+use mathlib.Core.List.{List, _++_}
+use Rattle.edition.specs.Edition.{maxVariables, maxLines}
 use Rattle.refusal.specs.SubjectWords.{ascii}
 use Rattle.tables.specs.Report.{reportOutcome}
+use Rattle.tables.specs.Claims.{Satisfies}
 use Rattle.report.specs.Text.{reportText}
 
 -- the text of the report on an answer
 abbrev pub reportOn : List ℕ → List ℕ → List ℕ
 reportOn constraint answer = reportText (reportOutcome constraint answer)
+
+-- DEMAND 2: its first line is `satisfied` exactly when the answer satisfies the constraint file
+abbrev pub PrintedExactly : Type 0
+PrintedExactly =
+    (constraint answer : List ℕ)
+    → ((rest : List ℕ) × (reportOn constraint answer ≡ ascii "satisfied\n" ++ rest)) ↔ Satisfies constraint answer maxVariables maxLines
+
+-- ONE CASE WHOLE
 
 -- "lines `v 1.0`, `d hi:i16 lo:i16 r:i32`, `c r conc hi lo`, each with LF", and with r:i31
 abbrev pub caseMap : List ℕ

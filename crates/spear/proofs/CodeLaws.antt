@@ -1,6 +1,6 @@
--- The number that a C program gets: 0 exactly where the answer satisfies the file, and one of those that are listed. Assumes nothing.
+-- The number that a C program gets: 0 exactly where the answer satisfies the file, and one of those that are listed; the kind of a word likewise. Assumes nothing.
 use Prim.Native.Nat.{ℕ}
-use mathlib.Core.Path.{_≡_, refl, ap}
+use mathlib.Core.Path.{_≡_, refl, ap, sym, _∙_}
 use mathlib.Core.List.{List}
 use native.Mathlib.Omega.{arith}
 use Rattle.refusal.specs.Result.{Result, accepted, refused}
@@ -13,8 +13,13 @@ use Rattle.tables.specs.declared.Tally.{Tally}
 use Rattle.tables.specs.declared.Report.{Report}
 use Rattle.tables.specs.declared.Report.the-variants.{Tallied, Refused}
 use Rattle.tables.specs.Report.{answering, reported, reportOutcome}
+use Rattle.tables.specs.declared.CheckReply.the-variants.{Checked}
+use Rattle.tables.specs.Check.{checkOutcome}
+use Rattle.tables.proofs.SatisfiedLaws.{satisfied-exactly}
 use Rattle.tables.proofs.ReportedLaws.{reported-exactly}
 use Rattle.spear.specs.Code.{codeOf, ZeroExactly, IsCode, of-verdict, of-refusal, CodesAre}
+use Rattle.spear.specs.Pack.{verdictWord, packCheck, kindIn, checkIn, KindZeroExactly}
+use Rattle.spear.proofs.KeptLaws.{check-kept}
 use Rattle.spear.proofs.PackLaws.{overall-small}
 use Rattle.spear.proofs.FileNumberLaws.{FileNumber, file-numbered, answer-numbered}
 
@@ -32,6 +37,16 @@ pub zero-exactly : ZeroExactly
 zero-exactly constraint answer =
     let both = reported-exactly constraint answer in
     (λ e. both .0 (zero-tallied (reportOutcome constraint answer) e), λ s. ap codeOf (both .1 s .1))
+
+-- ---- so is the kind 0
+zero-kind : (word : ℕ) → kindIn word ≡ 0 → checkIn word ≡ Checked Satisfied
+zero-kind word e = rw e
+
+pub kind-zero-exactly : KindZeroExactly
+unfolding verdictWord
+kind-zero-exactly constraint answer values verdicts =
+    let both = satisfied-exactly constraint answer values verdicts in
+    (λ e. both .0 (sym (check-kept constraint answer values verdicts) ∙ zero-kind (packCheck (checkOutcome constraint answer values verdicts .reply)) e), λ s. ap (λ r. kindIn (packCheck r)) (both .1 s))
 
 -- ---- no other number
 module _ (constraint answer : List ℕ) where

@@ -15,11 +15,11 @@ use Rattle.tables.specs.declared.CheckReply.{CheckReply}
 use Rattle.tables.specs.declared.CheckReply.the-variants.{Checked, Refused as CheckRefused}
 use Rattle.moves.specs.declared.ChangeReply.{ChangeReply}
 use Rattle.moves.specs.declared.ChangeReply.the-variants.{Changed, Refused}
-use Rattle.spear.specs.Pack.{verdictWord, refusalWord, decidingLine, subjectNumber, packRefusal, packCheck, packChange, bitsFrom, overallIn, subjectIn, refusalIn, checkIn, changeIn}
+use Rattle.spear.specs.Pack.{verdictWord, refusalWord, decidingLine, subjectNumber, packRefusal, packCheck, packChange, kindRefused, bitsFrom, kindIn, overallIn, subjectIn, refusalIn, checkIn, changeIn}
 
 -- ---- the parts of a word are the numbers it was made of
 pub record VerdictParts (word kind line named altered bits : ℕ) : Type 0 where
-  pub kind-in : bitsFrom word 0 8 ≡ kind
+  pub kind-in : kindIn word ≡ kind
   pub line-in : bitsFrom word 8 16 ≡ line
   pub named-in : bitsFrom word 24 16 ≡ named
   pub altered-in : bitsFrom word 40 16 ≡ altered
@@ -30,7 +30,7 @@ unfolding verdictWord
 verdict-parts kind line named altered bits k l n a b = record { kind-in = omega arith; line-in = omega arith; named-in = omega arith; altered-in = omega arith; bits-in = omega arith }
 
 pub record RefusalParts (word number subject position : ℕ) : Type 0 where
-  pub kind-in : bitsFrom word 0 8 ≡ 3
+  pub kind-in : kindIn word ≡ kindRefused
   pub number-in : bitsFrom word 8 8 ≡ number
   pub subject-in : bitsFrom word 16 8 ≡ subject
   pub position-in : bitsFrom word 24 40 ≡ position
@@ -45,12 +45,12 @@ overall-small Satisfied = omega arith
 overall-small (Violated n) = omega arith
 overall-small (Disregarded n) = omega arith
 
-overall-back : (o : Overall) (word : ℕ) → bitsFrom word 0 8 ≡ overallNumber o → bitsFrom word 8 16 ≡ decidingLine o → overallIn word ≡ o
+overall-back : (o : Overall) (word : ℕ) → kindIn word ≡ overallNumber o → bitsFrom word 8 16 ≡ decidingLine o → overallIn word ≡ o
 overall-back Satisfied word k l = rw k
 overall-back (Violated n) word k l = rw (k, l)
 overall-back (Disregarded n) word k l = rw (k, l)
 
-no-refusal : {A : Type 0} (o : Overall) (word : ℕ) (x y : A) → bitsFrom word 0 8 ≡ overallNumber o → cond (eqb (bitsFrom word 0 8) 3) x y ≡ y
+no-refusal : {A : Type 0} (o : Overall) (word : ℕ) (x y : A) → kindIn word ≡ overallNumber o → cond (eqb (kindIn word) kindRefused) x y ≡ y
 no-refusal Satisfied word x y k = rw k
 no-refusal (Violated n) word x y k = rw k
 no-refusal (Disregarded n) word x y k = rw k

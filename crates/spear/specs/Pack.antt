@@ -2,8 +2,10 @@
 use Prim.Native.Nat.{ℕ, _+_, _*_, _/_, _%_, _^_}
 use mathlib.Core.Path.{_≡_}
 use mathlib.Core.Bool.{cond}
+use mathlib.Core.Logic.{_↔_}
 use mathlib.Core.List.{List}
 use lib.Dec.{eqb}
+use lib.ListN.{length}
 use Rattle.refusal.specs.declared.Refusal.{Refusal}
 use Rattle.refusal.specs.declared.Subject.{Subject}
 use Rattle.refusal.specs.declared.Subject.the-variants.{Constraint, Answer, Values, Verdicts, Output, Call}
@@ -17,6 +19,7 @@ use Rattle.tables.specs.declared.CheckReply.the-variants.{Checked, Refused as C
 use Rattle.moves.specs.declared.ChangeReply.{ChangeReply}
 use Rattle.moves.specs.declared.ChangeReply.the-variants.{Changed, Refused}
 use Rattle.tables.specs.Check.{CheckOutcome, checkOutcome}
+use Rattle.tables.specs.Claims.{Satisfies}
 use Rattle.moves.specs.Change.{ChangeOutcome, changeOutcome}
 
 -- PACKING
@@ -25,9 +28,13 @@ use Rattle.moves.specs.Change.{ChangeOutcome, changeOutcome}
 unfoldable pub verdictWord : ℕ → ℕ → ℕ → ℕ → ℕ → ℕ
 verdictWord kind line named altered bits = kind + line % 2 ^ 16 * 2 ^ 8 + named % 2 ^ 16 * 2 ^ 24 + altered % 2 ^ 16 * 2 ^ 40 + bits % 2 ^ 8 * 2 ^ 56
 
--- the kind 3 in the lowest byte, the number and the subject in a byte each, and the position in 40 bits
+-- the kind of a refusal; that of a verdict is its number
+abbrev pub kindRefused : ℕ
+kindRefused = 3
+
+-- that kind in the lowest byte, the number and the subject in a byte each, and the position in 40 bits
 unfoldable pub refusalWord : ℕ → ℕ → ℕ → ℕ
-refusalWord number subject position = 3 + number % 2 ^ 8 * 2 ^ 8 + subject % 2 ^ 8 * 2 ^ 16 + position % 2 ^ 40 * 2 ^ 24
+refusalWord number subject position = kindRefused + number % 2 ^ 8 * 2 ^ 8 + subject % 2 ^ 8 * 2 ^ 16 + position % 2 ^ 40 * 2 ^ 24
 
 -- the line of a verdict, 0 where it names none
 abbrev pub decidingLine : Overall → ℕ
@@ -61,8 +68,11 @@ packChange (Refused r) = packRefusal r
 abbrev pub bitsFrom : ℕ → ℕ → ℕ → ℕ
 bitsFrom word i n = word / 2 ^ i % 2 ^ n
 
+abbrev pub kindIn : ℕ → ℕ
+kindIn word = bitsFrom word 0 8
+
 abbrev pub overallIn : ℕ → Overall
-overallIn word = cond (eqb (bitsFrom word 0 8) 0) Satisfied (cond (eqb (bitsFrom word 0 8) 1) (Violated (bitsFrom word 8 16)) (Disregarded (bitsFrom word 8 16)))
+overallIn word = cond (eqb (kindIn word) 0) Satisfied (cond (eqb (kindIn word) 1) (Violated (bitsFrom word 8 16)) (Disregarded (bitsFrom word 8 16)))
 
 abbrev pub subjectIn : ℕ → Subject
 subjectIn n = cond (eqb n 0) Constraint (cond (eqb n 1) Answer (cond (eqb n 2) Values (cond (eqb n 3) Verdicts (cond (eqb n 4) Output Call))))
@@ -74,10 +84,10 @@ abbrev pub effectIn : ℕ → Effect
 effectIn word = record { overall = overallIn word; named = bitsFrom word 24 16; altered = bitsFrom word 40 16; bits = bitsFrom word 56 8 }
 
 abbrev pub checkIn : ℕ → CheckReply
-checkIn word = cond (eqb (bitsFrom word 0 8) 3) (CheckRefused (refusalIn word)) (Checked (overallIn word))
+checkIn word = cond (eqb (kindIn word) kindRefused) (CheckRefused (refusalIn word)) (Checked (overallIn word))
 
 abbrev pub changeIn : ℕ → ChangeReply
-changeIn word = cond (eqb (bitsFrom word 0 8) 3) (Refused (refusalIn word)) (Changed (effectIn word))
+changeIn word = cond (eqb (kindIn word) kindRefused) (Refused (refusalIn word)) (Changed (effectIn word))
 
 -- NOTHING IS LOST
 
@@ -87,6 +97,12 @@ CheckKept = (constraint answer values verdicts : List ℕ) → checkIn (packChec
 
 abbrev pub ChangeKept : Type 0
 ChangeKept = (constraint values verdicts : List ℕ) (i v : ℕ) → changeIn (packChange (changeOutcome constraint values verdicts i v .reply)) ≡ changeOutcome constraint values verdicts i v .reply
+
+-- DEMAND 2: the kind of a check's word is 0 exactly when the answer satisfies the constraint file and the tables are long enough
+abbrev pub KindZeroExactly : Type 0
+KindZeroExactly =
+    (constraint answer values verdicts : List ℕ)
+    → (kindIn (packCheck (checkOutcome constraint answer values verdicts .reply)) ≡ 0) ↔ Satisfies constraint answer (length values) (length verdicts)
 
 -- THE CALLS: the word and the two tables at exit
 pub record Packed : Type 0 where

@@ -1,6 +1,6 @@
 // The claims: each is the contract of an empty function, so that a check lists it by name.
 ghost use Rattle.spear.specs.Code.{ZeroExactly, CodesAre};
-ghost use Rattle.spear.specs.Pack.{CheckKept, ChangeKept};
+ghost use Rattle.spear.specs.Pack.{KindZeroExactly, CheckKept, ChangeKept};
 
 // Demand 2: the number of a check is 0 exactly when its conditions hold.
 pub fn zero_exactly()
@@ -10,6 +10,11 @@ pub fn zero_exactly()
 // It is 0, 1, 2 or 101 to 120, for any bytes.
 pub fn codes_are()
     ensures { λ _. ⌜ CodesAre ⌝ }
+{}
+
+// Demand 2 of the check into a caller's tables: the kind of its word is 0 exactly when its conditions hold.
+pub fn kind_zero_exactly()
+    ensures { λ _. ⌜ KindZeroExactly ⌝ }
 {}
 
 // The word of a check loses nothing of its reply.
