@@ -2,16 +2,14 @@
 use Prim.Native.Nat.{ℕ, zero, suc}
 use Prim.Native.Char.{code}
 use mathlib.Core.Path.{_≡_, refl, sym, ap, subst, _∙_}
-use mathlib.Core.Bool.{Bool, true, false, cond}
+use mathlib.Core.Bool.{true, false, cond}
 use mathlib.Core.List.{List, [], _∷_, map, flatMap, append-nil, nil≢cons, cons≢nil, head-eq-of-cons-eq, tail-eq-of-cons-eq}
 use mathlib.Core.Option.{Option}
 use native.Mathlib.Omega.{arith}
 use lib.ListN.{replicate}
 use Rattle.refusal.specs.declared.Subject.the-variants.{Answer}
-use Rattle.refusal.specs.Lists.{every}
 use Rattle.refusal.specs.Result.{Result, accepted, _>>=_}
 use Rattle.refusal.proofs.ResultLaws.{never, bind-accepted, bind-through}
-use Rattle.text.specs.Bytes.{isAllowed}
 use Rattle.text.specs.Lines.{TextLine, Token, arguments, leads}
 use Rattle.text.specs.Reading.{readAnyLine, readLines}
 use Rattle.constraint.specs.File.{Variable}
@@ -19,6 +17,7 @@ use Rattle.constraint.specs.Sound.{Each}
 use Rattle.answer.specs.SolutionWords.{satisfiable}
 use Rattle.answer.specs.Read.{Settings, settingsOf, readSettings, readSolution, readValues, readAnswerLine}
 use Rattle.answer.specs.Claims.{letterOf}
+use Rattle.text.proofs.ReadingLaws.{IsAllowed, line-allowed}
 use Rattle.answer.proofs.SettingsListLaws.{settings-append}
 use Rattle.answer.proofs.SolutionLineLaws.{solution-is, solution-accepted}
 use Rattle.answer.proofs.LineKindLaws.{IsLine, IsSkipped, IsSolution, IsValues, LineKind, skipped, solution, values, other, line-kind}
@@ -26,10 +25,6 @@ use Rattle.answer.proofs.LineKindLaws.{IsLine, IsSkipped, IsSolution, I
 -- the tokens of the lines of one letter, in order
 unfoldable pub tokensIn : ℕ → List TextLine → List Token
 tokensIn letter = flatMap (λ l. cond (leads letter (l .bytes)) (arguments l) [])
-
--- a line's bytes are allowed
-abbrev pub IsAllowed : TextLine → Type 0
-IsAllowed l = every isAllowed (l .bytes) ≡ true
 
 -- lines with the `s` line, which bring the settings from vs to us
 pub record WithSolution (xs : List Variable) (vs us : List (Option ℕ)) (ls : List TextLine) : Type 0 where
@@ -69,15 +64,6 @@ module _ (xs : List Variable) where
 
   -- ---- a line in front of lines
   module _ (l : TextLine) (ls : List TextLine) where
-    -- it is accepted only if its bytes are allowed
-    line-allowed : (s u : Settings) → readAll s (l ∷ ls) ≡ accepted u → IsAllowed l
-    unfolding readLines readAnyLine
-    line-allowed s u e = go (every isAllowed (l .bytes)) refl
-      where
-        go : (t : Bool) → every isAllowed (l .bytes) ≡ t → t ≡ true
-        go true k = refl
-        go false k = never (cc (rw k at e))
-
     module _ (a : IsAllowed l) where
       -- it is read first
       line-first : {letter : List ℕ} {says sets : List Token} {read : Settings → Result Settings} (s : Settings) → IsLine xs l letter says sets read → readAll s (l ∷ ls) ≡ (read s >>= λ t. readAll t ls)
@@ -124,7 +110,7 @@ module _ (xs : List Variable) where
   behind-are (l ∷ ls) vs s e = go (line-kind xs l) (behind-are ls)
     where
       a : IsAllowed l
-      a = line-allowed l ls (settingsOf true vs) s e
+      a = line-allowed Answer (readAnswerLine xs) l ls (settingsOf true vs) s e
 
       go : LineKind xs l → ((us : List (Option ℕ)) (u : Settings) → readAll (settingsOf true us) ls ≡ accepted u → (u .solved ≡ true) × BehindSolution xs us (u .values) ls) → (s .solved ≡ true) × BehindSolution xs vs (s .values) (l ∷ ls)
       go (skipped k) ih = let p = ih vs s (sym (line-first l ls a (settingsOf true vs) k) ∙ e) in (p .0, behind-skipped l ls a vs (s .values) k (p .1))
@@ -159,7 +145,7 @@ module _ (xs : List Variable) where
   lines-are (l ∷ ls) vs s e d = go (line-kind xs l) (lines-are ls vs s)
     where
       a : IsAllowed l
-      a = line-allowed l ls (settingsOf false vs) s e
+      a = line-allowed Answer (readAnswerLine xs) l ls (settingsOf false vs) s e
 
       go : LineKind xs l → (readAll (settingsOf false vs) ls ≡ accepted s → s .solved ≡ true → WithSolution xs vs (s .values) ls) → WithSolution xs vs (s .values) (l ∷ ls)
       go (skipped k) ih = with-skipped l ls a vs (s .values) k (ih (sym (line-first l ls a (settingsOf false vs) k) ∙ e) d)

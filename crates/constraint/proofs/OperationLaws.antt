@@ -14,7 +14,6 @@ use Rattle.edition.specs.declared.Edition.{Edition}
 use Rattle.edition.specs.Edition.{maxLines, maxNameBytes, isWidth}
 use Rattle.refusal.specs.declared.Subject.the-variants.{Constraint}
 use Rattle.refusal.specs.Lists.{every}
-use Rattle.refusal.specs.Result.{Result}
 use Rattle.refusal.proofs.ResultLaws.{Yields, yields-accepted, yields-cond, yields-bind, yields-ensure, yields-both, yields-given, yields-also}
 use Rattle.arithmetic.specs.declared.Operator.{Operator}
 use Rattle.arithmetic.specs.Rules.{arity, widthsHold}
@@ -127,49 +126,14 @@ module _ (e : Edition) (xs : List Variable) (h : Each (SoundVariable e) xs) wher
   widths-there : (op : Operator) (o a b c : Operand) → SoundOperand xs o → Each (Present xs) (take (arity op) (a ∷ b ∷ c ∷ [])) → widthsHold op (resultWidth xs o) (ruleWord xs a) (ruleWord xs b) (ruleWord xs c) ≡ true
   widths-there op o a b c p q = widths-hold op (ruleWord xs a) (ruleWord xs b) (ruleWord xs c) (resultWidth xs o) (target-width o p) (present-widths (arity op) (a ∷ b ∷ c ∷ []) q)
 
--- ---- lines
--- one line more
-with-line : (f : File) (line : Line) → SoundFile f → length (f .lines) < maxLines → SoundLine (f .variables) line → SoundFile (withLine f line)
-with-line f line h room k = record {
-  few-variables = h .few-variables;
-  few-lines = rw length-append (omega arith);
-  variables = h .variables;
-  distinct = h .distinct;
-  lines = each-last (SoundLine (f .variables)) (f .lines) line (h .lines) k;
-}
-
-module _ (f : File) (l : TextLine) (h : SoundFile f) where
-  operation-keeps : (output : Operand) (ts : List Token) → SoundOperand (f .variables) output → length (f .lines) < maxLines → Yields (λ line. SoundFile (withLine f line)) (readOperation f l output ts)
-  unfolding readOperation
-  operation-keeps output ts o room =
-      yields-next Constraint l ts λ p.
-      yields-given (operatorNamed (editionOf f) (p .0 .bytes)) _ λ op _.
-      yields-bind (operands-yield (f .variables) l (arity op) (p .1)) λ q k.
-      let line : Line = record { output = output; operator = op; operands = q .0 } in
-      yields-no-more Constraint (q .1)
-      (yields-ensure (wellTyped (f .variables) line) _ λ w.
-      yields-accepted (with-line f line h room (record {
-        type-rules = w;
-        widths = widths-there (editionOf f) (f .variables) (h .variables) op output (q .0 .first) (q .0 .second) (q .0 .third) o (k .there);
-        output = o;
-        first = k .first;
-        second = k .second;
-        third = k .third;
-      })))
-
-  pub statement-keeps : (form : Form) → Yields (λ line. SoundFile (withLine f line)) (readStatement form f l)
-  unfolding readStatement
-  statement-keeps form =
-      yields-ensure (ltb (length (f .lines)) maxLines) _ λ e.
-      yields-bind (output-yields form (f .variables) l (arguments l)) λ p o.
-      operation-keeps (p .0) (p .1) o (ltb-true (length (f .lines)) maxLines e)
-
 -- ---- the parts of a line that is read, in a file of any lines
 pub record SoundParts (xs : List Variable) (line : Line) : Type 0 where
+  pub type-rules : wellTyped xs line ≡ true
   pub output : SoundOperand xs (line .output)
   pub first : SoundOperand xs (line .operands .first)
   pub second : SoundOperand xs (line .operands .second)
   pub third : SoundOperand xs (line .operands .third)
+  there : Each (Present xs) (take (arity (line .operator)) (line .operands .first ∷ line .operands .second ∷ line .operands .third ∷ []))
 
 module _ (f : File) (l : TextLine) where
   operation-parts : (output : Operand) (ts : List Token) → SoundOperand (f .variables) output → Yields (SoundParts (f .variables)) (readOperation f l output ts)
@@ -181,14 +145,37 @@ module _ (f : File) (l : TextLine) where
       let line : Line = record { output = output; operator = op; operands = q .0 } in
       yields-no-more Constraint (q .1)
       (yields-ensure (wellTyped (f .variables) line) _ λ w.
-      yields-accepted (record { output = o; first = k .first; second = k .second; third = k .third }))
-
-  with-room : {r : Result Line} → length (f .lines) < maxLines → Yields (SoundParts (f .variables)) r → Yields (λ line. (length (f .lines) < maxLines) × SoundParts (f .variables) line) r
-  with-room h y = record { holds = λ line e. (h, y .holds line e) }
+      yields-accepted (record { type-rules = w; output = o; first = k .first; second = k .second; third = k .third; there = k .there }))
 
   pub statement-parts : (form : Form) → Yields (λ line. (length (f .lines) < maxLines) × SoundParts (f .variables) line) (readStatement form f l)
   unfolding readStatement
   statement-parts form =
       yields-ensure (ltb (length (f .lines)) maxLines) _ λ e.
       yields-bind (output-yields form (f .variables) l (arguments l)) λ p o.
-      with-room (ltb-true (length (f .lines)) maxLines e) (operation-parts (p .0) (p .1) o)
+      yields-also (λ line k. (ltb-true (length (f .lines)) maxLines e, k)) (operation-parts (p .0) (p .1) o)
+
+-- ---- one line more
+module _ (f : File) (h : SoundFile f) where
+  sound-line : (line : Line) → SoundParts (f .variables) line → SoundLine (f .variables) line
+  sound-line line p =
+      let os = line .operands in
+      record {
+        type-rules = p .type-rules;
+        widths = widths-there (editionOf f) (f .variables) (h .variables) (line .operator) (line .output) (os .first) (os .second) (os .third) (p .output) (p .there);
+        output = p .output;
+        first = p .first;
+        second = p .second;
+        third = p .third;
+      }
+
+  with-line : (line : Line) → (length (f .lines) < maxLines) × SoundParts (f .variables) line → SoundFile (withLine f line)
+  with-line line (room, p) = record {
+    few-variables = h .few-variables;
+    few-lines = rw length-append (omega arith);
+    variables = h .variables;
+    distinct = h .distinct;
+    lines = each-last (SoundLine (f .variables)) (f .lines) line (h .lines) (sound-line line p);
+  }
+
+  pub statement-keeps : (l : TextLine) (form : Form) → Yields (λ line. SoundFile (withLine f line)) (readStatement form f l)
+  statement-keeps l form = yields-also with-line (statement-parts f l form)

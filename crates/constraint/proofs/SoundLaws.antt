@@ -8,13 +8,12 @@ use native.Mathlib.Omega.{arith}
 use Rattle.edition.specs.declared.Edition.{Edition}
 use Rattle.refusal.specs.declared.Subject.the-variants.{Constraint}
 use Rattle.refusal.specs.Numbers.{wrongVersion, wrongExpectation}
-use Rattle.refusal.specs.Lists.{every, isThere}
+use Rattle.refusal.specs.Lists.{isThere}
 use Rattle.refusal.specs.Result.{Result, accepted, refused}
-use Rattle.refusal.proofs.ResultLaws.{Yields, yields-accepted, yields-refused, yields-cond, yields-bind, yields-ensure, yields-given}
+use Rattle.refusal.proofs.ResultLaws.{Yields, yields-accepted, yields-refused, yields-bind, yields-ensure, yields-given}
 use Rattle.text.specs.Lines.{TextLine, arguments}
-use Rattle.text.specs.Bytes.{isSpace, isAllowed}
 use Rattle.text.specs.Reading.{readAnyLine}
-use Rattle.text.proofs.ReadingLaws.{yields-next, yields-no-more, keeps-text}
+use Rattle.text.proofs.ReadingLaws.{yields-next, yields-no-more, keeps-text, keeps-any-line}
 use Rattle.constraint.specs.declared.Line.{Line}
 use Rattle.constraint.specs.declared.Kind.{Kind}
 use Rattle.constraint.specs.declared.Kind.the-variants.{Skipped, OfVersion, OfExpectation, OfDeclarations, OfStatement, OfNoKind}
@@ -27,7 +26,7 @@ use Rattle.constraint.proofs.DeclarationLaws.{declarations-keep}
 use Rattle.constraint.proofs.OperationLaws.{statement-keeps}
 
 -- the editions have the same spellings
-any-edition : (e d : Edition) (x : Variable) → SoundVariable e x → SoundVariable d x
+pub any-edition : (e d : Edition) (x : Variable) → SoundVariable e x → SoundVariable d x
 unfolding spellings
 any-edition e d x h = record { spelt = h .spelt; not-empty = h .not-empty; short = h .short; free = h .free; width = h .width }
 
@@ -69,7 +68,7 @@ as-keeps Skipped f l h = yields-accepted h
 as-keeps OfVersion f l h = version-keeps f l h
 as-keeps OfExpectation f l h = expectation-keeps f l h
 as-keeps OfDeclarations f l h = declarations-keep f l h
-as-keeps (OfStatement form) f l h = add-keeps f (statement-keeps f l h form)
+as-keeps (OfStatement form) f l h = add-keeps f (statement-keeps f h l form)
 as-keeps OfNoKind f l h = yields-refused
 
 line-keeps : (f : File) (l : TextLine) → SoundFile f → Yields SoundFile (readLine f l)
@@ -77,8 +76,7 @@ unfolding readLine
 line-keeps f l h = as-keeps (kindOf (l .bytes)) f l h
 
 pub any-line-keeps : (f : File) (l : TextLine) → SoundFile f → Yields SoundFile (readAnyLine Constraint readLine f l)
-unfolding readAnyLine
-any-line-keeps f l h = yields-ensure (every isAllowed (l .bytes)) _ λ _. yields-cond (every isSpace (l .bytes)) (yields-accepted h) (line-keeps f l h)
+any-line-keeps = keeps-any-line Constraint readLine line-keeps
 
 pub empty-sound : SoundFile emptyFile
 empty-sound = record { few-variables = omega arith; few-lines = omega arith; variables = tt; distinct = tt; lines = tt }

@@ -23,9 +23,10 @@ use Rattle.constraint.specs.File.{withVariables}
 use Rattle.constraint.specs.Sound.{Each, SoundVariable, Distinct}
 use Rattle.constraint.specs.Read.{inHeader, versionOf, readVersion, expectationOf, readExpectation, readDeclarations}
 use Rattle.plain.specs.Says.{Said, saidBy, linesWith, tokensWith, isHeader, SpellsVariable, Pairwise}
+use Rattle.text.proofs.ReadingLaws.{IsAllowed}
 use Rattle.plain.proofs.LineLaws.{tokens, single-again, declarations-is, declarations-again, formLetter, saying}
 use Rattle.plain.proofs.KindLaws.{IsLine, LineKind, skipped, version, expectation, declarations, statement, other, line-kind}
-use Rattle.plain.proofs.OthersLaws.{IsAllowed, readAll, line-first, line-then, version-step, expectation-step, statement-then, Others, others-none, others-more, others-are, others-again}
+use Rattle.plain.proofs.OthersLaws.{readAll, line-first, line-then, version-step, expectation-step, statement-then, Others, others-none, others-more, others-are, others-again}
 
 -- ---- a thing that is said once at most: from a to b by lines of one token, none or one
 pub data Once {A : Type 0} (parse : List ℕ → Option A) (a : Option A) (ls : List (List (List ℕ))) (b : Option A) : Type 0 where

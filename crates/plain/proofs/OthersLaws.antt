@@ -2,7 +2,7 @@
 use Prim.Native.Nat.{_≤_, _<_}
 use Prim.Native.Char.{code}
 use mathlib.Core.Path.{_≡_, refl, sym, ap, subst, _∙_}
-use mathlib.Core.Bool.{Bool, true, false, not, _&&_}
+use mathlib.Core.Bool.{true, false, not, _&&_}
 use mathlib.Core.List.{List, [], _∷_, _++_, flatMap, append-nil}
 use native.Mathlib.Omega.{arith}
 use lib.ListN.{length, length-append}
@@ -11,13 +11,13 @@ use borrow.Author.Tests.{eqb-true}
 use Rattle.edition.specs.declared.Edition.{Edition}
 use Rattle.edition.specs.Edition.{maxLines}
 use Rattle.refusal.specs.declared.Subject.the-variants.{Constraint}
-use Rattle.refusal.specs.Lists.{every, isThere}
+use Rattle.refusal.specs.Lists.{isThere}
 use Rattle.refusal.specs.Result.{Result, accepted, refused, _>>=_}
 use Rattle.refusal.proofs.ResultLaws.{never, bind-accepted, ensure-accepted}
 use Rattle.refusal.proofs.BoolLaws.{and-true}
-use Rattle.text.specs.Bytes.{isAllowed}
 use Rattle.text.specs.Lines.{TextLine, arguments}
 use Rattle.text.specs.Reading.{readAnyLine, readLines}
+use Rattle.text.proofs.ReadingLaws.{IsAllowed, line-allowed}
 use Rattle.constraint.specs.declared.Line.{Line}
 use Rattle.constraint.specs.declared.Form.{Form}
 use Rattle.constraint.specs.File.{Variable, File, withVersion, withExpectation, withLine, editionOf}
@@ -27,24 +27,11 @@ use Rattle.plain.specs.Says.{Said, saidBy, isHeader, SpellsLine, with-ou
 use Rattle.plain.proofs.LineLaws.{tokens, SingleIs, single-is, statement-is, statement-again, formLetter, saying}
 use Rattle.plain.proofs.KindLaws.{IsLine, LineKind, skipped, version, expectation, declarations, statement, other, line-kind}
 
--- a line's bytes are allowed
-abbrev pub IsAllowed : TextLine → Type 0
-IsAllowed l = every isAllowed (l .bytes) ≡ true
-
 abbrev pub readAll : File → List TextLine → Result File
 readAll = readLines Constraint readLine
 
 -- ---- a line in front of lines
 module _ (l : TextLine) (ls : List TextLine) where
-  -- it is accepted only if its bytes are allowed
-  line-allowed : (a f : File) → readAll a (l ∷ ls) ≡ accepted f → IsAllowed l
-  unfolding readLines readAnyLine
-  line-allowed a f e = go (every isAllowed (l .bytes)) refl
-    where
-      go : (t : Bool) → every isAllowed (l .bytes) ≡ t → t ≡ true
-      go true k = refl
-      go false k = never (cc (rw k at e))
-
   -- it is read first
   pub line-first : IsAllowed l → {says : List Said} {read : File → Result File} (a : File) → IsLine l says read → readAll a (l ∷ ls) ≡ (read a >>= λ b. readAll b ls)
   unfolding readLines readAnyLine
@@ -52,12 +39,12 @@ module _ (l : TextLine) (ls : List TextLine) where
 
   -- the first line, and then the others
   pub line-then : {says : List Said} {read : File → Result File} (a f : File) → IsLine l says read → readAll a (l ∷ ls) ≡ accepted f → (b : File) × (read a ≡ accepted b) × (readAll b ls ≡ accepted f)
-  line-then {read = read} a f k e = bind-accepted (read a) (λ b. readAll b ls) f (sym (line-first (line-allowed a f e) a k) ∙ e)
+  line-then {read = read} a f k e = bind-accepted (read a) (λ b. readAll b ls) f (sym (line-first (line-allowed Constraint readLine l ls a f e) a k) ∙ e)
 
 pub lines-allowed : (ls : List TextLine) (a f : File) → readAll a ls ≡ accepted f → Each IsAllowed ls
 unfolding readLines
 lines-allowed [] a f e = tt
-lines-allowed (l ∷ ls) a f e = let p = bind-accepted (readAnyLine Constraint readLine a l) (λ b. readAll b ls) f e in (line-allowed l ls a f e, lines-allowed ls (p .0) f (p .2))
+lines-allowed (l ∷ ls) a f e = let p = bind-accepted (readAnyLine Constraint readLine a l) (λ b. readAll b ls) f e in (line-allowed Constraint readLine l ls a f e, lines-allowed ls (p .0) f (p .2))
 
 -- ---- no line of the header behind it
 in-header : (a : File) → inHeader a ≡ true → length (a .lines) ≡ 0
@@ -110,7 +97,7 @@ others-are [] a f n e = subst (λ (g : File). Others a g []) (cc e) (others-none
 others-are (l ∷ ls) a f n e = go (line-kind l) (others-are ls)
   where
     go : LineKind l → ((b g : File) → 1 ≤ length (b .lines) → readAll b ls ≡ accepted g → Others b g (flatMap saidBy ls)) → Others a f (flatMap saidBy (l ∷ ls))
-    go (skipped k) ih = rw (k .said-is) (ih a f n (sym (line-first l ls (line-allowed l ls a f e) a k) ∙ e))
+    go (skipped k) ih = rw (k .said-is) (ih a f n (sym (line-first l ls (line-allowed Constraint readLine l ls a f e) a k) ∙ e))
     go (version k) ih =
         let p = line-then l ls a f k e in
         let z = in-header a (and-true (inHeader a) (not (isThere (a .version))) (version-step a (p .0) l (p .1) .is-allowed) .0) in

@@ -17,17 +17,17 @@ use Rattle.refusal.specs.Result.{Result, accepted, refused}
 use Rattle.refusal.proofs.ResultLaws.{never, bind-accepted, ensure-accepted}
 use Rattle.text.specs.Lines.{textLines}
 use Rattle.text.specs.Reading.{readText}
-use Rattle.spelling.specs.Operators.{spellings}
 use Rattle.constraint.specs.declared.Line.{Line}
 use Rattle.constraint.specs.File.{Variable, File, emptyFile, editionOf}
-use Rattle.constraint.specs.Sound.{Each, SoundVariable, SoundFile}
+use Rattle.constraint.specs.Sound.{Each, SoundFile}
 use Rattle.constraint.specs.Read.{versionOf, expectationOf, readLine, readFile}
 use Rattle.constraint.proofs.EachLaws.{each-map}
-use Rattle.constraint.proofs.SoundLaws.{accepted-is-sound}
+use Rattle.constraint.proofs.SoundLaws.{any-edition, accepted-is-sound}
 use Rattle.plain.specs.Says.{said, linesWith, tokensWith, SaysVersion, SaysExpectation, no-line, says-0, says-1, SpellsVariable, SpellsLine, Pairwise, Says}
 use Rattle.plain.specs.Claims.{ReadsExactly, RefusesExactly}
+use Rattle.text.proofs.ReadingLaws.{IsAllowed}
 use Rattle.plain.proofs.TokenLaws.{version-is, version-again, expectation-is, zero-again, one-again}
-use Rattle.plain.proofs.OthersLaws.{IsAllowed, lines-allowed, Others}
+use Rattle.plain.proofs.OthersLaws.{lines-allowed, Others}
 use Rattle.plain.proofs.HeaderLaws.{Once, kept, set, Header, Whole, whole-are, Fine, whole-again}
 
 -- ---- the `v` line and the `e` line
@@ -43,11 +43,6 @@ expectation-once : (es : List (List (List ℕ))) (n : Option ℕ) → SaysExpect
 expectation-once es n (no-line e k) = kept e (sym k)
 expectation-once es n (says-0 e k) = set _ 0 refl e zero-again k
 expectation-once es n (says-1 e k) = set _ 1 refl e one-again k
-
--- the editions have the same spellings
-any-edition : (e d : Edition) (x : Variable) → SoundVariable e x → SoundVariable d x
-unfolding spellings
-any-edition e d x h = record { spelt = h .spelt; not-empty = h .not-empty; short = h .short; free = h .free; width = h .width }
 
 module _ (bytes : List ℕ) (f : File) where
   -- what lines that are read say

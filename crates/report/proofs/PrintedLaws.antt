@@ -25,8 +25,7 @@ satisfied-only (Refused r) rest e = let z : ⊥ = omega (arith, head-eq-of-cons-
 pub printed-exactly : PrintedExactly
 unfolding reportText overallText
 printed-exactly constraint answer =
-    let both = reported-exactly constraint answer in
-    (
+    let both = reported-exactly constraint answer in (
       λ p. both .0 (satisfied-only (reportOutcome constraint answer) (p .0) (p .1)),
       λ s. let p = both .1 s in (tallyText (p .0) ++ ascii "\n", ap reportText (p .1)),
     )

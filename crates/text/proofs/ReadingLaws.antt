@@ -14,7 +14,7 @@ use Rattle.refusal.specs.declared.Subject.{Subject}
 use Rattle.refusal.specs.Lists.{every}
 use Rattle.refusal.specs.Numbers.{fileTooLong, byteNotAllowed}
 use Rattle.refusal.specs.Result.{Result, accepted, refused, refusal, _>>=_, _>>_}
-use Rattle.refusal.proofs.ResultLaws.{Yields, yields-accepted, yields-refused, yields-cond, yields-bind, yields-ensure}
+use Rattle.refusal.proofs.ResultLaws.{Yields, yields-accepted, yields-refused, yields-cond, yields-bind, yields-ensure, bind-accepted, ensure-accepted}
 use Rattle.text.specs.declared.Class.the-variants.{Until, Space, Allowed}
 use Rattle.text.specs.Bytes.{isSpace, isAllowed}
 use Rattle.text.specs.Lines.{TextLine, linesFrom, textLines, Token}
@@ -34,9 +34,18 @@ module _ {B : Type 0} {Q : B → Type 0} (file : Subject) where
   yields-no-more [] n = n
   yields-no-more (t ∷ ts) n = yields-refused
 
+-- a line's bytes are allowed
+abbrev pub IsAllowed : TextLine → Type 0
+IsAllowed l = every isAllowed (l .bytes) ≡ true
+
+-- a line in front of lines is accepted only if its bytes are allowed
+pub line-allowed : {State : Type 0} (file : Subject) (readLine : State → TextLine → Result State) (l : TextLine) (ls : List TextLine) (s u : State) → readLines file readLine s (l ∷ ls) ≡ accepted u → IsAllowed l
+unfolding readLines readAnyLine
+line-allowed file readLine l ls s u e = let p = bind-accepted (readAnyLine file readLine s l) (λ t. readLines file readLine t ls) u e in ensure-accepted (every isAllowed (l .bytes)) _ _ (p .0) (p .1) .0
+
 -- what each line keeps holds of the whole
 module _ {State : Type 0} {P : State → Type 0} (file : Subject) (readLine : State → TextLine → Result State) (keeps : (s : State) (l : TextLine) → P s → Yields P (readLine s l)) where
-  keeps-any-line : (s : State) (l : TextLine) → P s → Yields P (readAnyLine file readLine s l)
+  pub keeps-any-line : (s : State) (l : TextLine) → P s → Yields P (readAnyLine file readLine s l)
   unfolding readAnyLine
   keeps-any-line s l h = yields-ensure (every isAllowed (l .bytes)) _ λ _. yields-cond (every isSpace (l .bytes)) (yields-accepted h) (keeps s l h)
 

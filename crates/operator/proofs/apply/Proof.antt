@@ -2,7 +2,8 @@
 use mathlib.Core.Path.{_≡_, sym, ap, _∙_}
 use mathlib.Core.Bool.{true}
 use Rattle.arithmetic.specs.Rules.{widthsHold, typed, operandsFit}
-use Rattle.arithmetic.proofs.RuleLaws.{passed, failed, evaluable}
+use Rattle.refusal.proofs.BoolLaws.{passed, failed}
+use Rattle.arithmetic.proofs.RuleLaws.{evaluable}
 use Rattle.operator.specs.Apply.{applyOutcome}
 use Rattle.operator.proofs.ApplyLaws.{passedOn, no-width, rule-broken, too-large, taken}
 use borrow.Author.Needs.{needs}
