@@ -17,7 +17,7 @@ use Rattle.judge.proofs.FitLaws.{fits-none}
 use Rattle.answer.specs.Read.{readAnswer}
 use Rattle.answer.specs.Claims.{tokensOf, valuesOf, IsSetting, Sets}
 use Rattle.text.proofs.NameLaws.{same-true}
-use Rattle.answer.proofs.NamedLaws.{same-number}
+use Rattle.constraint.proofs.NamedLaws.{same-number}
 use Rattle.answer.proofs.SettingTokenLaws.{setting-name, setting-digits}
 use Rattle.answer.proofs.SettingsListLaws.{valuesIn}
 use Rattle.answer.proofs.AcceptsLaws.{accepts-exactly}

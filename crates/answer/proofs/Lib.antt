@@ -6,7 +6,6 @@ pub mod SettingLaws
 pub mod ValueLaws
 pub mod ReaderLaws
 pub mod CallLaws
-pub mod NamedLaws
 pub mod SettingTokenLaws
 pub mod SettingsListLaws
 pub mod SolutionLineLaws

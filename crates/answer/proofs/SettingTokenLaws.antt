@@ -26,7 +26,7 @@ use Rattle.answer.specs.Claims.{IsSetting}
 use Rattle.text.proofs.SeenLaws.{name-plain}
 use Rattle.text.proofs.TokenLaws.{parts-join, up-to-join, behind-join}
 use Rattle.constraint.proofs.EachLaws.{each-at}
-use Rattle.answer.proofs.NamedLaws.{named-is, named-at}
+use Rattle.constraint.proofs.NamedLaws.{named-is, named-at}
 
 -- a token sets the variable of number i to v
 pub record SetsTo (xs : List Variable) (t : Token) (i v : ℕ) : Type 0 where

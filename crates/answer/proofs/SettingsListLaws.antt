@@ -23,7 +23,7 @@ use Rattle.constraint.specs.File.{Variable, nameAt}
 use Rattle.constraint.specs.Sound.{Each, SoundVariable, Distinct}
 use Rattle.answer.specs.Read.{readSetting, readSettings}
 use Rattle.answer.specs.Claims.{IsSetting}
-use Rattle.answer.proofs.NamedLaws.{same-number}
+use Rattle.constraint.proofs.NamedLaws.{same-number}
 use Rattle.answer.proofs.SettingTokenLaws.{setting-yields, setting-name, setting-digits, setting-accepted}
 
 -- the values that tokens give to a name, in order

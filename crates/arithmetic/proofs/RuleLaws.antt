@@ -21,11 +21,11 @@ use Rattle.arithmetic.specs.Rules.{arity, maxOperands, operandsTaken, wi
 use Rattle.arithmetic.specs.Evaluable.{IsWidth, NumbersOfBits, Evaluable}
 
 -- each of a list's tests
-abbrev Each : {A : Type 0} → (A → Bool) → List A → Type 0
-Each test [] = Unit {0}
-Each test (x ∷ xs) = (test x ≡ true) × Each test xs
+abbrev AllPass : {A : Type 0} → (A → Bool) → List A → Type 0
+AllPass test [] = Unit {0}
+AllPass test (x ∷ xs) = (test x ≡ true) × AllPass test xs
 
-each : {A : Type 0} (test : A → Bool) (xs : List A) → every test xs ≡ true → Each test xs
+each : {A : Type 0} (test : A → Bool) (xs : List A) → every test xs ≡ true → AllPass test xs
 unfolding every
 each test [] e = tt
 each test (x ∷ xs) e = let p = and-true (test x) (every test xs) e in (p .0, each test xs (p .1))
@@ -50,11 +50,11 @@ fits-at : (k : ℕ) (w : Word) → is k w ≡ true → fits w ≡ true → w .va
 fits-at k w e f = subst (λ (n : ℕ). w .value < 2 ^ n) (eqb-true (w .width) k e) (fits-is w f)
 
 -- two operands as wide as the result
-alike : (k : ℕ) (a b : Word) → IsWidth k → (is k a ≡ true) × (is k b ≡ true) → Each fits (a ∷ b ∷ []) → NumbersOfBits k (a .value) (b .value)
+alike : (k : ℕ) (a b : Word) → IsWidth k → (is k a ≡ true) × (is k b ≡ true) → AllPass fits (a ∷ b ∷ []) → NumbersOfBits k (a .value) (b .value)
 alike k a b w t v = record { least = w .least; most = w .most; bound = fits-at k a (t .0) (v .0); bound₂ = fits-at k b (t .1) (v .1 .0) }
 
 -- two operands as wide as each other
-matched : (a b : Word) → IsWidth (a .width) → is (b .width) a ≡ true → Each fits (a ∷ b ∷ []) → NumbersOfBits (a .width) (a .value) (b .value)
+matched : (a b : Word) → IsWidth (a .width) → is (b .width) a ≡ true → AllPass fits (a ∷ b ∷ []) → NumbersOfBits (a .width) (a .value) (b .value)
 matched a b w t v =
     let e : a .width ≡ b .width = eqb-true (a .width) (b .width) t in
     record { least = w .least; most = w .most; bound = fits-is a (v .0); bound₂ = subst (λ (n : ℕ). b .value < 2 ^ n) (sym e) (fits-is b (v .1 .0)) }
@@ -69,7 +69,7 @@ hasWidth w = isWidth (w .width)
 result-width : (k : ℕ) (ws : List Word) → (isWidth k && every hasWidth ws) ≡ true → IsWidth k
 result-width k ws e = width-is k (and-true (isWidth k) (every hasWidth ws) e .0)
 
-operand-widths : (k : ℕ) (ws : List Word) → (isWidth k && every hasWidth ws) ≡ true → Each hasWidth ws
+operand-widths : (k : ℕ) (ws : List Word) → (isWidth k && every hasWidth ws) ≡ true → AllPass hasWidth ws
 operand-widths k ws e = each hasWidth ws (and-true (isWidth k) (every hasWidth ws) e .1)
 
 -- operands that pass the three tests keep the rule

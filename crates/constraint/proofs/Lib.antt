@@ -1,6 +1,7 @@
 -- Laws that belong to no one function.
 pub mod EachLaws
 pub mod VariableLaws
+pub mod NamedLaws
 pub mod DeclarationLaws
 pub mod OperationLaws
 pub mod SoundLaws

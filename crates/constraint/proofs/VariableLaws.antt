@@ -44,11 +44,11 @@ unfolding variableNamed
 variable-within name xs i e = let h = first-below (λ y. same (y .name) name) 0 i xs e in omega arith
 
 -- where no two names are the same, any variable that has the name is the one found
-pub named-at : (name : List ℕ) (d : Variable) (xs : List Variable) (k i : ℕ) → Distinct xs → i < length xs → getD xs i d .name ≡ name → firstFrom (λ x. same (x .name) name) k xs ≡ some (k + i)
+pub first-named : (name : List ℕ) (d : Variable) (xs : List Variable) (k i : ℕ) → Distinct xs → i < length xs → getD xs i d .name ≡ name → firstFrom (λ x. same (x .name) name) k xs ≡ some (k + i)
 unfolding firstFrom
-named-at name d [] k i u h e = let z : ⊥ = omega arith in absurd z
-named-at name d (x ∷ xs) k zero u h e = rw (e, same-self name, add-zero k)
-named-at name d (x ∷ xs) k (suc i) u h e =
+first-named name d [] k i u h e = let z : ⊥ = omega arith in absurd z
+first-named name d (x ∷ xs) k zero u h e = rw (e, same-self name, add-zero k)
+first-named name d (x ∷ xs) k (suc i) u h e =
     let other : same (x .name) name ≡ false = same-false (x .name) name (λ q. each-at (λ y. x .name ≡ y .name → ⊥) xs i d (u .0) (omega arith) (q ∙ sym e)) in
     let place : suc k + i ≡ k + suc i = omega arith in
-    rw (other, ← place) (named-at name d xs (suc k) i (u .1) (omega arith) e)
+    rw (other, ← place) (first-named name d xs (suc k) i (u .1) (omega arith) e)

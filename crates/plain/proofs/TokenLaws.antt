@@ -16,7 +16,7 @@ use Rattle.refusal.specs.Result.{accepted}
 use Rattle.refusal.specs.SubjectWords.{ascii}
 use Rattle.refusal.proofs.ResultLaws.{never, Yields, yields-accepted, yields-cond, yields-ensure, yields-both, yields-given}
 use Rattle.refusal.proofs.BoolLaws.{and-true, fails}
-use Rattle.refusal.proofs.ListLaws.{every-weaken, first-passes}
+use Rattle.refusal.proofs.ListLaws.{every-weaken}
 use Rattle.arithmetic.specs.declared.Word.{Word}
 use Rattle.text.specs.Bytes.{same, isDigit, isLetter, isNameByte}
 use Rattle.text.specs.Lines.{Token}
@@ -31,7 +31,7 @@ use Rattle.constraint.specs.File.{Variable, variableNamed, variableAt, nameAt}
 use Rattle.constraint.specs.Sound.{Each, SoundVariable, Distinct}
 use Rattle.constraint.specs.Read.{maxVersionDigits, versionOf, expectationOf, declare, readVariable, readConstant, readOperand}
 use Rattle.constraint.proofs.EachLaws.{each-at}
-use Rattle.constraint.proofs.VariableLaws.{named-at}
+use Rattle.constraint.proofs.NamedLaws.{named-is, named-at}
 use Rattle.constraint.proofs.VariableLaws.{width-test, variable-within}
 use Rattle.arithmetic.proofs.RuleLaws.{width-is}
 use Rattle.plain.specs.Says.{SpellsVersion, SpellsWidth, SpellsVariable, SpellsConstant, SpellsOperand, SaysExpectation, says-0, says-1}
@@ -184,19 +184,12 @@ declare-again e xs x t q s d h =
     )
 
 -- ---- operands
-named-is : (name : List ℕ) (xs : List Variable) (i : ℕ) → variableNamed name xs ≡ some i → name ≡ nameAt xs i
-unfolding variableNamed nameAt
-named-is name xs i e =
-    let p = first-passes (λ x. same (x .name) name) (variableAt [] 0) 0 i xs e in
-    let z : i ≡ p .0 = omega arith in
-    rw z (sym (same-true _ name (p .2)))
-
 variable-is : (xs : List Variable) (t : Token) → Yields (SpellsOperand xs (t .bytes)) (readVariable xs t)
 unfolding readVariable
 variable-is xs t =
     yields-ensure (leb (length (t .bytes)) maxNameBytes) _ λ _.
     yields-given (variableNamed (t .bytes) xs) _ λ i e.
-    yields-accepted (variable-within (t .bytes) xs i e, named-is (t .bytes) xs i e)
+    yields-accepted (variable-within (t .bytes) xs i e, sym (named-is (t .bytes) xs i e))
 
 constant-is : (xs : List Variable) (t : Token) → Yields (SpellsOperand xs (t .bytes)) (readConstant t)
 unfolding readConstant
@@ -233,11 +226,10 @@ constant-again xs w t q =
 
 module _ (e : Edition) (xs : List Variable) (sound : Each (SoundVariable e) xs) (distinct : Distinct xs) where
   variable-again : (i : ℕ) → i < length xs → (t : Token) → t .bytes ≡ nameAt xs i → readOperand xs t ≡ accepted (Var i)
-  unfolding readOperand readVariable nameAt variableNamed
+  unfolding readOperand readVariable nameAt
   variable-again i h t q =
       let s = each-at (SoundVariable e) xs i (variableAt [] 0) sound h in
-      let z : 0 + i ≡ i = omega arith in
-      rw (q, s .spelt, le-leb (length (variableAt xs i .name)) maxNameBytes (s .short), named-at (variableAt xs i .name) (variableAt [] 0) xs 0 i distinct h refl, z)
+      rw (q, s .spelt, le-leb (length (nameAt xs i)) maxNameBytes (s .short), named-at xs distinct i h)
 
   pub operand-again : (o : Operand) (t : Token) → SpellsOperand xs (t .bytes) o → readOperand xs t ≡ accepted o
   operand-again Absent t h = absurd h

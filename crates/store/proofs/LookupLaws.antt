@@ -15,7 +15,7 @@ use Rattle.constraint.specs.File.{Variable, variableNamed}
 use Rattle.store.specs.Tables.{tabulate, variableIn, variablesIn}
 use Rattle.constraint.specs.Sound.{Distinct}
 use Rattle.store.proofs.TableLaws.{length-tabulate, getD-tabulate, tabulate-suc}
-use Rattle.constraint.proofs.VariableLaws.{named-at}
+use Rattle.constraint.proofs.VariableLaws.{first-named}
 
 -- a table none of whose first i elements passes
 module _ {A : Type 0} (test : A → Bool) (f : ℕ → A) (i : ℕ) (e : firstFrom test 0 (tabulate f i) ≡ none) where
@@ -61,4 +61,4 @@ named-guess name file starts lens widths n i u h e =
     let d : Variable = record { name = []; width = 0 } in
     let q : 0 + i ≡ i = omega arith in
     let e₂ : getD (tabulate (variableIn file starts lens widths) n) i d .name ≡ name = ap (λ (x : Variable). x .name) (getD-tabulate (variableIn file starts lens widths) n i d h) ∙ same-true _ name e in
-    named-at name d (tabulate (variableIn file starts lens widths) n) 0 i u (omega (arith, length-tabulate (variableIn file starts lens widths) n)) e₂ ∙ ap some q
+    first-named name d (tabulate (variableIn file starts lens widths) n) 0 i u (omega (arith, length-tabulate (variableIn file starts lens widths) n)) e₂ ∙ ap some q

@@ -19,7 +19,7 @@ use Rattle.text.specs.declared.Class.the-variants.{Until, Space, Allowed
 use Rattle.text.specs.Bytes.{isSpace, isAllowed}
 use Rattle.text.specs.Lines.{TextLine, linesFrom, textLines, Token}
 use Rattle.text.specs.Reading.{nextToken, noMoreTokens, readAnyLine, readLines, readText}
-use Rattle.text.specs.Scan.{isOf, past}
+use Rattle.text.specs.Scan.{isOf, past, lineAt}
 use Rattle.text.proofs.RunLaws.{past-ge, past-le, scan-bounds, strict-within, strict-before}
 use Rattle.text.proofs.LineLaws.{lines-turn, lines-end, allowed-all, allowed-not, allowed-place, allowed-in-line, other-in-line}
 
@@ -57,10 +57,6 @@ module _ {State : Type 0} {P : State → Type 0} (file : Subject) (readLine : St
   pub keeps-text : (s : State) (bytes : List ℕ) → P s → Yields P (readText file readLine s bytes)
   unfolding readText
   keeps-text s bytes h = yields-ensure (leb (length bytes) maxFileBytes) _ λ _. keeps-lines s (textLines bytes) h
-
--- the line from `at` to the end of a text
-abbrev lineAt : List ℕ → ℕ → ℕ → TextLine
-lineAt text at next = record { start = at; bytes = drop at text; next = next }
 
 module _ {State : Type 0} (file : Subject) (readLine : State → TextLine → Result State) where
   -- ---- any line, whose first byte that is not allowed a scan finds at `bad`

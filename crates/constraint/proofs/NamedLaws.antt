@@ -8,10 +8,10 @@ use native.Mathlib.Omega.{arith}
 use lib.ListN.{length}
 use Rattle.text.specs.Bytes.{same}
 use Rattle.text.proofs.NameLaws.{same-true}
 use Rattle.constraint.specs.File.{Variable, variableNamed, nameAt}
 use Rattle.constraint.specs.Sound.{Distinct}
 use Rattle.refusal.proofs.ListLaws.{first-passes}
-use Rattle.constraint.proofs.VariableLaws.{named-at as first-named}
+use Rattle.constraint.proofs.VariableLaws.{first-named}
 
 -- the variable of a name has that name
 pub named-is : (name : List ℕ) (xs : List Variable) (i : ℕ) → variableNamed name xs ≡ some i → nameAt xs i ≡ name
