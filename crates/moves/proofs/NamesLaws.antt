@@ -17,6 +17,11 @@ use Rattle.constraint.specs.File.{Variable, File, operandWord, target}
 use Rattle.judge.specs.Judge.{verdictViolated, verdictHolds, verdictDisregarded, resultOf, judged, judge, verdictsOf, freshVerdicts}
 use Rattle.moves.specs.Change.{isVariable, names, remade, renewed}
 
+-- a line names a variable by one of four tests
+pub names-by : (i : ℕ) (l : Line) {a b c d : Bool} → a ≡ isVariable i (l .output) → b ≡ isVariable i (l .operands .first) → c ≡ isVariable i (l .operands .second) → d ≡ isVariable i (l .operands .third) → (a || b || c || d) ≡ names i l
+unfolding names
+names-by i l p q r s = rw (p, q, r, s)
+
 -- neither of two tests passes
 neither : (x y : Bool) → (x || y) ≡ false → (x ≡ false) × (y ≡ false)
 neither true y e = never (cc e)

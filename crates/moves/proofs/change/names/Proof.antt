@@ -1,5 +1,8 @@
-use Rattle.moves.specs.Change.{names}
+use mathlib.Core.Path.{ap, _∙_}
+use Rattle.store.specs.Tables.{lineIn}
+use Rattle.moves.specs.Change.{isVariable}
 use borrow.Author.Needs.{needs}
+use Rattle.moves.proofs.NamesLaws.{names-by}
 use Rattle.moves.proofs.change.names.Statement.{statement}
 use Rattle.moves.proofs.change.names.Tie as tie
 
@@ -28,8 +31,16 @@ is-variable-requires-4 : tie.Need-is-variable-requires-4
 is-variable-requires-4 c κs = search needs
 
 returns : tie.Need-returns
-unfolding names
-returns c = rw (c .is-variable4 .ensures, c .before .third-of .ensures, c .before .before .is-variable3 .ensures, c .before .before .before .second-of .ensures, c .before .before .before .before .is-variable2 .ensures, c .before .before .before .before .before .first-of .ensures, c .before .before .before .before .before .before .is-variable .ensures, c .before .before .before .before .before .before .before .output-of .ensures)
+returns c =
+    let d = c .before .before in
+    let e = d .before .before in
+    let f = e .before .before in
+    let a = f .before .before .args in
+    names-by (a .i) (lineIn (a .lines .now) (a .k))
+    (f .is-variable .ensures ∙ ap (isVariable (a .i)) (f .before .output-of .ensures))
+    (e .is-variable2 .ensures ∙ ap (isVariable (a .i)) (e .before .first-of .ensures))
+    (d .is-variable3 .ensures ∙ ap (isVariable (a .i)) (d .before .second-of .ensures))
+    (c .is-variable4 .ensures ∙ ap (isVariable (a .i)) (c .before .third-of .ensures))
 
 pub names-spec : {M : Type 1} → statement M
 names-spec =
