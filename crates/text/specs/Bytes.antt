@@ -29,9 +29,13 @@ isSpace b = eqb b (code " ") || eqb b (code "\t")
 unfoldable pub isLineFeed : ℕ → Bool
 isLineFeed b = eqb b (code "\n")
 
+-- the printing bytes, with the space
+abbrev pub isPrinting : ℕ → Bool
+isPrinting = between 32 126
+
 -- the bytes allowed in a line: "tab, LF, 32 to 126", of which LF ends it
 unfoldable pub isAllowed : ℕ → Bool
-isAllowed b = eqb b (code "\t") || between 32 126 b
+isAllowed b = eqb b (code "\t") || isPrinting b
 
 -- digits and letters
 unfoldable pub isDigit : ℕ → Bool

@@ -3,15 +3,15 @@ use super::Class;
 use super::NextToken;
 use super::Span;
 ghost use mathlib.Core.Path.{_≡_};
-ghost use mathlib.Core.Bool.{true};
+ghost use mathlib.Core.Bool.{true, cond};
 ghost use Prim.Native.Nat.{_+_, _≤_, min};
 ghost use lib.ListN.{length, drop};
 ghost use Rattle.refusal.specs.Lists.{every};
-ghost use Rattle.text.specs.Bytes.{isSpace, isDigit, isLetter, isNameByte, isAllowed};
+ghost use Rattle.text.specs.Bytes.{isSpace, isDigit, isLetter, isNameByte, isPrinting, isAllowed};
 ghost use Rattle.text.specs.Lines.{tokensFrom, leads as leadsBy};
 ghost use Rattle.text.specs.Spelling.{isName};
 ghost use Rattle.text.specs.declared.Class.the-variants.{Space, NameByte, Allowed};
-ghost use Rattle.text.specs.Scan.{isOf, past, Scanned, endsToken, tokensBy, Within};
+ghost use Rattle.text.specs.Scan.{isOf, past, Scanned, printAt, endsToken, tokensBy, Within};
 
 fn is_space(b: u8) -> bool
     ensures { λ r. ⌜ r ≡ isSpace b ⌝ }
@@ -41,10 +41,16 @@ fn is_name_byte(b: u8) -> bool
     is_letter(b) | is_digit(b) | (b == b'_')
 }
 
+fn is_printing(b: u8) -> bool
+    ensures { λ r. ⌜ r ≡ isPrinting b ⌝ }
+{
+    (b' ' <= b) & (b <= b'~')
+}
+
 fn is_allowed(b: u8) -> bool
     ensures { λ r. ⌜ r ≡ isAllowed b ⌝ }
 {
-    (b == b'\t') | ((b' ' <= b) & (b <= b'~'))
+    (b == b'\t') | is_printing(b)
 }
 
 fn is_of(class: Class, b: u8) -> bool
@@ -118,14 +124,69 @@ pub fn token_ends(line: &[u8], at: usize) -> bool
     is_space(line[at])
 }
 
-// Passes over printing bytes from `at` on: most of a line, by one test each.
+// Whether printing bytes stand at `at`: 2, 4, 8 or 16. All are tested, so that the tests are one piece of vector code.
+fn print2(text: &[u8], at: usize) -> bool
+    requires { ⌜ at + 2 ≤ length (now text) ⌝ }
+    ensures { λ r. ⌜ r ≡ printAt (now (text .entry)) at 2 ⌝ }
+{
+    let next = at + 1;
+    is_printing(text[at]) & is_printing(text[next])
+}
+
+fn print4(text: &[u8], at: usize) -> bool
+    requires { ⌜ at + 4 ≤ length (now text) ⌝ }
+    ensures { λ r. ⌜ r ≡ printAt (now (text .entry)) at 4 ⌝ }
+{
+    print2(text, at) & print2(text, at + 2)
+}
+
+fn print8(text: &[u8], at: usize) -> bool
+    requires { ⌜ at + 8 ≤ length (now text) ⌝ }
+    ensures { λ r. ⌜ r ≡ printAt (now (text .entry)) at 8 ⌝ }
+{
+    print4(text, at) & print4(text, at + 4)
+}
+
+fn print16(text: &[u8], at: usize) -> bool
+    requires { ⌜ at + 16 ≤ length (now text) ⌝ }
+    ensures { λ r. ⌜ r ≡ printAt (now (text .entry)) at 16 ⌝ }
+{
+    print8(text, at) & print8(text, at + 8)
+}
+
+// A step of n, or none.
+fn step(on: bool, n: usize) -> usize
+    ensures { λ r. ⌜ (r ≡ cond on n 0) × (r ≤ n) ⌝ }
+{
+    if on { n } else { 0 }
+}
+
+// Passes over the printing bytes from `at` on, where the next 16 are not all printing.
+fn block(text: &[u8], at: usize) -> usize
+    requires { ⌜ at + 16 ≤ length (now text) ⌝ }
+    ensures { λ r. ⌜ Scanned (isOf Allowed) (now (text .entry)) at r ⌝ }
+{
+    let a = at + step(print8(text, at), 8);
+    let b = a + step(print4(text, a), 4);
+    let c = b + step(print2(text, b), 2);
+    c + step(is_printing(text[c]), 1)
+}
+
+// Passes over printing bytes from `at` on, most of a line: 16 at a time, and the last of the text one by one.
 fn printing(text: &[u8], at: usize) -> usize
     requires { ⌜ at ≤ length (now text) ⌝ }
     ensures { λ r. ⌜ Scanned (isOf Allowed) (now (text .entry)) at r ⌝ }
 {
     let mut i = at;
+    while 16 <= text.len() - i {
+        if print16(text, i) {
+            i += 16;
+        } else {
+            return block(text, i);
+        }
+    }
     while i < text.len() {
-        if (b' ' <= text[i]) & (text[i] <= b'~') {
+        if is_printing(text[i]) {
             i += 1;
         } else {
             return i;
