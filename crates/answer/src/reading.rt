@@ -8,22 +8,23 @@ use super::solutions::solution_line;
 use edition::Edition;
 use refusal::Refusal;
 use text::Class;
+use text::LineFound;
 use text::scan::all;
+use text::scan::find_line;
 use text::scan::leads;
-use text::scan::next_line;
-use text::scan::scan;
 ghost use mathlib.Core.Path.{_≡_};
-ghost use mathlib.Core.Bool.{false};
+ghost use mathlib.Core.Bool.{true, false};
 ghost use mathlib.Core.List.{List};
 ghost use Prim.Native.Nat.{ℕ, _<_, _≤_};
 ghost use lib.ListN.{length, drop};
 ghost use Rattle.edition.specs.Edition.{maxVariables};
-ghost use Rattle.refusal.specs.Lists.{isThere};
+ghost use Rattle.refusal.specs.Lists.{isThere, every};
 ghost use Rattle.refusal.specs.declared.Subject.the-variants.{Answer};
 ghost use Rattle.text.specs.Lines.{textLines};
 ghost use Rattle.text.specs.Reading.{readAnyLine, readLines};
+ghost use Rattle.text.specs.declared.Class.the-variants.{Allowed};
+ghost use Rattle.text.specs.Scan.{isOf, lineAt};
 ghost use Rattle.store.specs.Tables.{variablesIn};
-ghost use Rattle.text.specs.Scan.{lineAt};
 ghost use Rattle.answer.specs.Read.{settingsOf, answerKind, readAnswerLine, allSet, readAnswer};
 ghost use Rattle.answer.specs.Internal.{entriesIn, SettingsSized, answerStep, answerResult};
 
@@ -79,7 +80,7 @@ fn read_line<'a>(
     }
 }
 
-// Reads any line: a byte that is not allowed is found first, and a blank line is passed over.
+// Reads any line whose bytes are allowed: a blank line is passed over.
 fn read_any_line<'a>(
     file: &[u8],
     starts: &'a [usize; Edition::VARIABLES],
@@ -92,13 +93,9 @@ fn read_any_line<'a>(
     values: &mut [u64; Edition::VARIABLES],
     solved: bool,
 ) -> AnswerProgress
-    requires { ⌜ (at ≤ length (now line)) × (n ≤ maxVariables) × SettingsSized (now flags) (now values) ⌝ }
+    requires { ⌜ (at ≤ length (now line)) × (n ≤ maxVariables) × SettingsSized (now flags) (now values) × (every (isOf Allowed) (drop at (now line)) ≡ true) ⌝ }
     ensures { λ r. ⌜ ((next : ℕ) → answerStep (entriesIn (now (flags .exit)) (now (values .exit)) n) r ≡ readAnyLine Answer (readAnswerLine (variablesIn (now (file .entry)) (now (starts .entry)) (now (lens .entry)) (now (widths .entry)) n)) (settingsOf solved (entriesIn (now (flags .entry)) (now (values .entry)) n)) (lineAt (now (line .entry)) at next)) × SettingsSized (now (flags .exit)) (now (values .exit)) ⌝ }
 {
-    let bad = scan(line, at, Class::Allowed);
-    if bad < line.len() {
-        return AnswerProgress::Stop(refusal(Refusal::BYTE_NOT_ALLOWED, bad));
-    }
     if all(line, at, Class::Space) {
         return AnswerProgress::Next(solved);
     }
@@ -133,28 +130,23 @@ fn read_lines<'a>(
     let mut solved = false;
     let mut i = 0;
     while i < answer.len() {
-        let stop = scan(answer, i, Class::Until(b'\n'));
-        let next = next_line(answer, stop);
-        match read_any_line(
-            file,
-            starts,
-            lens,
-            widths,
-            n,
-            &answer[..stop],
-            i,
-            flags,
-            values,
-            solved,
-        ) {
-            AnswerProgress::Stop(r) => {
-                return AnswerProgress::Stop(r);
+        match find_line(answer, i) {
+            LineFound::Faulty(bad) => {
+                return AnswerProgress::Stop(refusal(Refusal::BYTE_NOT_ALLOWED, bad));
             }
-            AnswerProgress::Next(s) => {
-                solved = s;
+            LineFound::Ends(stop, next) => {
+                let cut = &answer[..stop];
+                match read_any_line(file, starts, lens, widths, n, cut, i, flags, values, solved) {
+                    AnswerProgress::Stop(r) => {
+                        return AnswerProgress::Stop(r);
+                    }
+                    AnswerProgress::Next(s) => {
+                        solved = s;
+                    }
+                }
+                i = next;
             }
         }
-        i = next;
     }
     AnswerProgress::Next(solved)
 }

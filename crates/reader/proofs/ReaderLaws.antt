@@ -1,22 +1,18 @@
 -- Reading line by line. Assumes nothing.
 use Prim.Native.Nat.{ℕ, _≤_, _<_}
 use mathlib.Core.Path.{_≡_, refl, sym, ap, _∙_}
-use mathlib.Core.Bool.{Bool, true, false, not}
 use mathlib.Core.List.{List}
 use mathlib.Core.Option.{none, some}
 use native.Mathlib.Nat.{add-zero}
 use native.Mathlib.Omega.{arith}
-use lib.Dec.{eqb, ltb}
 use lib.ListN.{length, getD, drop}
 use lib.Seq.{getD-drop}
-use borrow.Author.Tests.{eqb-true, eqb-false, lt-ltb, ltb-true, not-true, not-false}
 use Rattle.edition.specs.declared.Edition.{Edition}
 use Rattle.edition.specs.Edition.{maxFileBytes, maxLines}
 use Rattle.refusal.specs.declared.Refusal.{Refusal}
 use Rattle.refusal.specs.declared.Subject.the-variants.{Constraint}
 use Rattle.refusal.specs.Numbers.{fileTooLong, misplacedLine}
 use Rattle.refusal.specs.Result.{Result, accepted, refused, refusal}
-use Rattle.refusal.proofs.BoolLaws.{and-true}
 use Rattle.refusal.proofs.ResultLaws.{Yields}
 use Rattle.text.specs.Lines.{TextLine, textLines}
 use Rattle.text.specs.Reading.{readLines}
@@ -32,7 +28,7 @@ use Rattle.store.specs.Tables.{tabulate, variablesIn, linesIn}
 use Rattle.constraint.specs.Read.{kindOf, readAs, readLine, readFile}
 use Rattle.reader.specs.Inspect.{inspected}
 use Rattle.statement.specs.Internal.{lineResult}
-use Rattle.reader.specs.Internal.{HasRoom, faultyAt}
+use Rattle.reader.specs.Internal.{HasRoom}
 use Rattle.store.specs.Progress.{nothingRead, storedFile}
 use Rattle.store.specs.Tables.{Store}
 use Rattle.store.proofs.TableLaws.{lines-length, storable-line}
@@ -54,16 +50,6 @@ has-room table p (HasLine l) xs e y =
     let q = y .holds l (sym e) in
     (omega (arith, q .0, lines-length table (p .lines)), storable-line xs l (q .1))
 has-room table p (NoLine r) xs e y = tt
-
--- whether a byte stands at n that does not end a line
-module _ (f : List ℕ) (n : ℕ) {r : Bool} (h : r ≡ faultyAt f n) where
-  pub faulty-is : r ≡ true → (n < length f) × (getD f n 0 ≡ 10 → ⊥)
-  faulty-is e =
-      let p = and-true (ltb n (length f)) (not (eqb (getD f n 0) 10)) (sym h ∙ e) in
-      (ltb-true n (length f) (p .0), eqb-false (getD f n 0) 10 (not-true _ (p .1)))
-
-  pub faulty-not : r ≡ false → n < length f → getD f n 0 ≡ 10
-  faulty-not e l = eqb-true (getD f n 0) 10 (not-false _ (rw (lt-ltb n (length f) l) at (sym h ∙ e)))
 
 -- before the first line nothing is held
 pub nothing-held : (bytes : List ℕ) (t : Store) → storedFile bytes t nothingRead ≡ emptyFile

@@ -17,10 +17,10 @@ use store::lines::TABLE_WORDS;
 use store::lines::store_line;
 use store::names::BYTES;
 use text::Class;
+use text::LineFound;
 use text::scan::all;
-use text::scan::allowed;
+use text::scan::find_line;
 use text::scan::leads;
-use text::scan::next_line;
 ghost use mathlib.Core.Path.{_≡_};
 ghost use mathlib.Core.Bool.{true};
 ghost use mathlib.Core.List.{List};
@@ -39,7 +39,7 @@ ghost use Rattle.constraint.specs.Read.{kindOf, addLine, readLine, readFile};
 ghost use Rattle.constraint.specs.Sound.{Distinct};
 ghost use Rattle.store.specs.Tables.{byteValues, storedVariables, storeOf, StoreSized};
 ghost use Rattle.statement.specs.Internal.{lineResult};
-ghost use Rattle.reader.specs.Internal.{HasRoom, faultyAt};
+ghost use Rattle.reader.specs.Internal.{HasRoom};
 ghost use Rattle.store.specs.Progress.{nothingRead, withLineRead, storedFile, stepResult, InTables, StepInTables};
 ghost use Rattle.text.specs.Scan.{lineAt};
 
@@ -160,17 +160,6 @@ fn read_any_line(
     read_line(file, stop, at, starts, lens, guesses, widths, lines, p)
 }
 
-// Whether a byte stands at `stop` that does not end a line.
-fn faulty(file: &[u8], stop: usize) -> bool
-    ensures { λ r. ⌜ r ≡ faultyAt (now (file .entry)) stop ⌝ }
-{
-    if stop < file.len() {
-        file[stop] != b'\n'
-    } else {
-        false
-    }
-}
-
 // Nothing read yet.
 fn nothing() -> Progress
     ensures { λ r. ⌜ r ≡ nothingRead ⌝ }
@@ -183,7 +172,7 @@ fn nothing() -> Progress
     }
 }
 
-// Reads all lines. A byte that is not allowed is found with the line's end: LF is none of the allowed bytes.
+// Reads all lines.
 fn read_lines(
     file: &[u8],
     starts: &mut [usize; Edition::VARIABLES],
@@ -198,20 +187,22 @@ fn read_lines(
     let mut p = nothing();
     let mut i = 0;
     while i < file.len() {
-        let stop = allowed(file, i);
-        if faulty(file, stop) {
-            return Step::Stop(refusal(Refusal::BYTE_NOT_ALLOWED, stop));
-        }
-        let next = next_line(file, stop);
-        match read_any_line(file, stop, i, starts, lens, guesses, widths, lines, p) {
-            Step::Stop(r) => {
-                return Step::Stop(r);
+        match find_line(file, i) {
+            LineFound::Faulty(bad) => {
+                return Step::Stop(refusal(Refusal::BYTE_NOT_ALLOWED, bad));
             }
-            Step::Next(q) => {
-                p = q;
+            LineFound::Ends(stop, next) => {
+                match read_any_line(file, stop, i, starts, lens, guesses, widths, lines, p) {
+                    Step::Stop(r) => {
+                        return Step::Stop(r);
+                    }
+                    Step::Next(q) => {
+                        p = q;
+                    }
+                }
+                i = next;
             }
         }
-        i = next;
     }
     Step::Next(p)
 }

@@ -6,8 +6,9 @@ pub mod LineLaws
 pub mod TokenLaws
 pub mod NumberLaws
 pub mod NameLaws
-pub mod ReadingLaws
 pub mod AppendLaws
+pub mod FoundLineLaws
+pub mod ReadingLaws
 pub mod SeenLaws
 pub mod TypeLaws
 pub mod FirstByteLaws

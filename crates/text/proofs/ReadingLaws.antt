@@ -1,12 +1,11 @@
 -- Reading line by line: what holds of all that is accepted, and the turn of a loop over the lines. Assumes nothing.
-use Prim.Native.Nat.{ℕ, _+_, _≤_, _<_, min}
+use Prim.Native.Nat.{ℕ, _≤_, _<_}
 use mathlib.Core.Path.{_≡_, refl}
 use mathlib.Core.Bool.{true, false}
 use mathlib.Core.List.{List, [], _∷_}
 use native.Mathlib.Omega.{arith}
 use lib.Dec.{leb}
-use lib.ListN.{length, getD, take, drop}
-use lib.Seq.{length-take-le}
+use lib.ListN.{length, take, drop}
 use borrow.Author.Tests.{le-leb, lt-leb}
 use Rattle.edition.specs.Edition.{maxFileBytes}
 use Rattle.refusal.specs.declared.Refusal.{Refusal}
@@ -15,13 +14,14 @@ use Rattle.refusal.specs.Lists.{every}
 use Rattle.refusal.specs.Numbers.{fileTooLong, byteNotAllowed}
 use Rattle.refusal.specs.Result.{Result, accepted, refused, refusal, _>>=_, _>>_}
 use Rattle.refusal.proofs.ResultLaws.{Yields, yields-accepted, yields-refused, yields-cond, yields-bind, yields-ensure, bind-accepted, ensure-accepted}
-use Rattle.text.specs.declared.Class.the-variants.{Until, Space, Allowed}
+use Rattle.text.specs.declared.Class.the-variants.{Space, Allowed}
+use Rattle.text.specs.declared.LineFound.the-variants.{Faulty}
 use Rattle.text.specs.Bytes.{isSpace, isAllowed}
 use Rattle.text.specs.Lines.{TextLine, linesFrom, textLines, Token}
 use Rattle.text.specs.Reading.{nextToken, noMoreTokens, readAnyLine, readLines, readText}
-use Rattle.text.specs.Scan.{isOf, past, lineAt}
-use Rattle.text.proofs.RunLaws.{past-ge, past-le, scan-bounds, strict-within, strict-before}
-use Rattle.text.proofs.LineLaws.{lines-turn, lines-end, allowed-all, allowed-not, allowed-place, allowed-in-line, other-in-line}
+use Rattle.text.specs.Scan.{isOf, foundLine, lineAt}
+use Rattle.text.proofs.LineLaws.{lineFrom, lines-turn, lines-end}
+use Rattle.text.proofs.FoundLineLaws.{Ended, line-faulty}
 
 module _ {B : Type 0} {Q : B → Type 0} (file : Subject) where
   -- a token, then the next step
@@ -59,24 +59,6 @@ module _ {State : Type 0} {P : State → Type 0} (file : Subject) (readLine : St
   keeps-text s bytes h = yields-ensure (leb (length bytes) maxFileBytes) _ λ _. keeps-lines s (textLines bytes) h
 
 module _ {State : Type 0} (file : Subject) (readLine : State → TextLine → Result State) where
-  -- ---- any line, whose first byte that is not allowed a scan finds at `bad`
-  module _ (s : State) (text : List ℕ) (at bad next : ℕ) (h : at ≤ length text) (found : bad ≡ past (isOf Allowed) text at) where
-    pub any-bad : bad < length text → refused (refusal file byteNotAllowed bad) ≡ readAnyLine file readLine s (lineAt text at next)
-    unfolding readAnyLine
-    any-bad l = rw (allowed-not text at bad h found l, allowed-place text at bad h found)
-
-    module _ (l : length text ≤ bad) where
-      allowed : every isAllowed (drop at text) ≡ true
-      allowed = allowed-all text at bad h found (omega (arith, scan-bounds (isOf Allowed) text at bad h found))
-
-      pub any-blank : every (isOf Space) (drop at text) ≡ true → accepted s ≡ readAnyLine file readLine s (lineAt text at next)
-      unfolding readAnyLine isOf
-      any-blank b = rw (allowed, b)
-
-      pub any-line : every (isOf Space) (drop at text) ≡ false → readLine s (lineAt text at next) ≡ readAnyLine file readLine s (lineAt text at next)
-      unfolding readAnyLine isOf
-      any-line b = rw (allowed, b)
-
   -- ---- any line whose bytes are allowed
   module _ (s : State) (text : List ℕ) (at next : ℕ) (allowed : every (isOf Allowed) (drop at text) ≡ true) where
     pub fine-blank : every (isOf Space) (drop at text) ≡ true → accepted s ≡ readAnyLine file readLine s (lineAt text at next)
@@ -101,24 +83,28 @@ module _ {State : Type 0} (file : Subject) (readLine : State → TextLine → Re
       unfolding readLines
       reading-ends h = rw (lines-end bytes i h) at (inv .rest)
 
-      -- the line at i ends at `stop`, and the next starts at `next`
-      module _ (stop next : ℕ) (h : i < length bytes) (hs : stop ≡ past (isOf (Until 10)) bytes i) (hn : next ≡ min (stop + 1) (length bytes)) where
-        pub reading-stops : (r : Refusal) → refused r ≡ readAnyLine file readLine s (lineAt (take stop bytes) i next) → refused r ≡ readLines file readLine start (textLines bytes)
+      -- the line at i
+      module _ (h : i < length bytes) where
+        line-stops : (r : Refusal) → refused r ≡ readAnyLine file readLine s (lineFrom bytes i) → refused r ≡ readLines file readLine start (textLines bytes)
         unfolding readLines
-        reading-stops r e = rw (← e) at (rw (lines-turn bytes i stop next h hs hn) at (inv .rest))
+        line-stops r e = rw (← e) at (rw (lines-turn bytes i h) at (inv .rest))
 
-        pub reading-goes : (t : State) → accepted t ≡ readAnyLine file readLine s (lineAt (take stop bytes) i next) → Reading t next
+        line-goes : (t : State) → accepted t ≡ readAnyLine file readLine s (lineFrom bytes i) → readLines file readLine t (linesFrom true (lineFrom bytes i .next) (drop (lineFrom bytes i .next) bytes)) ≡ readLines file readLine start (textLines bytes)
         unfolding readLines
-        reading-goes t e = record { within = omega arith; rest = rw (← e) at (rw (lines-turn bytes i stop next h hs hn) at (inv .rest)) }
+        line-goes t e = rw (← e) at (rw (lines-turn bytes i h) at (inv .rest))
 
-      -- a byte that is not allowed stands at `bad`, and does not end the line
-      pub reading-faults : (bad : ℕ) → i < length bytes → bad ≡ past (isOf Allowed) bytes i → bad < length bytes → (getD bytes bad 0 ≡ 10 → ⊥) → refused (refusal file byteNotAllowed bad) ≡ readLines file readLine start (textLines bytes)
-      reading-faults bad h hb l k =
-          let g : i ≤ length bytes = omega arith in
-          let stop = past (isOf (Until 10)) bytes i in
-          let long = length-take-le stop bytes (past-le (isOf (Until 10)) bytes i g) in
-          let before = strict-before (isOf Allowed) (isOf (Until 10)) allowed-in-line bytes i bad g hb l (other-in-line _ k) in
-          reading-stops stop (min (stop + 1) (length bytes)) h refl refl _ (any-bad s (take stop bytes) i bad (min (stop + 1) (length bytes)) (omega (arith, long, past-ge (isOf (Until 10)) bytes i)) (strict-within (isOf Allowed) (isOf (Until 10)) allowed-in-line bytes i bad g hb) (omega (arith, long)))
+        -- its content ends at `stop`, and the next line starts at `next`
+        module _ (stop next : ℕ) (end : Ended bytes i stop next) where
+          pub reading-stops : (r : Refusal) → refused r ≡ readAnyLine file readLine s (lineAt (take stop bytes) i next) → refused r ≡ readLines file readLine start (textLines bytes)
+          reading-stops r e = line-stops r (rw (end .line) e)
+
+          pub reading-goes : (t : State) → accepted t ≡ readAnyLine file readLine s (lineAt (take stop bytes) i next) → Reading t next
+          reading-goes t e = record { within = end .inside; rest = rw (end .line) at (line-goes t (rw (end .line) e)) }
+
+        -- a byte of it is not allowed
+        pub reading-faults : (bad : ℕ) → Faulty bad ≡ foundLine (lineFrom bytes i) → refused (refusal file byteNotAllowed bad) ≡ readLines file readLine start (textLines bytes)
+        unfolding readAnyLine
+        reading-faults bad e = let q = line-faulty (lineFrom bytes i) bad e in line-stops _ (rw (q .0, q .1))
 
   -- ---- the whole text
   module _ (s : State) (bytes : List ℕ) where

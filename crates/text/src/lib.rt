@@ -22,6 +22,12 @@ pub struct Span {
     pub stop: usize,
 }
 
+// A line: where its content ends, and where the next line starts; or its first byte that is not allowed.
+pub enum LineFound {
+    Ends(usize, usize),
+    Faulty(usize),
+}
+
 // The next token of a line.
 pub enum NextToken {
     OneMore(Span),

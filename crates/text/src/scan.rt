@@ -1,17 +1,18 @@
 // Scanners: one loop for every class of bytes.
 use super::Class;
+use super::LineFound;
 use super::NextToken;
 use super::Span;
 ghost use mathlib.Core.Path.{_≡_};
 ghost use mathlib.Core.Bool.{true, cond};
-ghost use Prim.Native.Nat.{_+_, _≤_, min};
+ghost use Prim.Native.Nat.{_+_, _≤_};
 ghost use lib.ListN.{length, drop};
 ghost use Rattle.refusal.specs.Lists.{every};
 ghost use Rattle.text.specs.Bytes.{isSpace, isDigit, isLetter, isNameByte, isPrinting, isAllowed};
-ghost use Rattle.text.specs.Lines.{tokensFrom, leads as leadsBy};
+ghost use Rattle.text.specs.Lines.{lineOf, tokensFrom, leads as leadsBy};
 ghost use Rattle.text.specs.Spelling.{isName};
 ghost use Rattle.text.specs.declared.Class.the-variants.{Space, NameByte, Allowed};
-ghost use Rattle.text.specs.Scan.{isOf, past, Scanned, printAt, endsToken, tokensBy, Within};
+ghost use Rattle.text.specs.Scan.{isOf, past, Scanned, printAt, foundLine, endsToken, tokensBy, Within};
 
 fn is_space(b: u8) -> bool
     ensures { λ r. ⌜ r ≡ isSpace b ⌝ }
@@ -196,7 +197,7 @@ fn printing(text: &[u8], at: usize) -> usize
 }
 
 // As `scan` does for the bytes allowed in a line.
-pub fn allowed(text: &[u8], at: usize) -> usize
+fn allowed(text: &[u8], at: usize) -> usize
     requires { ⌜ at ≤ length (now text) ⌝ }
     ensures { λ r. ⌜ r ≡ past (isOf Allowed) (now (text .entry)) at ⌝ }
 {
@@ -220,12 +221,19 @@ pub fn all(text: &[u8], at: usize, class: Class) -> bool
     scan(text, at, class) == text.len()
 }
 
-// Where the line that stops at `stop` has its next line.
-pub fn next_line(file: &[u8], stop: usize) -> usize
-    requires { ⌜ stop ≤ length (now file) ⌝ }
-    ensures { λ r. ⌜ r ≡ min (stop + 1) (length (now (file .entry))) ⌝ }
+// The line from `at` on. LF is not allowed in it, so that one scan finds its end and a byte that is not allowed.
+pub fn find_line(file: &[u8], at: usize) -> LineFound
+    requires { ⌜ at ≤ length (now file) ⌝ }
+    ensures { λ r. ⌜ r ≡ foundLine (lineOf at (drop at (now (file .entry)))) ⌝ }
 {
-    if stop < file.len() { stop + 1 } else { stop }
+    let stop = allowed(file, at);
+    if file.len() <= stop {
+        return LineFound::Ends(stop, stop);
+    }
+    if file[stop] == b'\n' {
+        return LineFound::Ends(stop, stop + 1);
+    }
+    LineFound::Faulty(stop)
 }
 
 // The first token of a line from `at` on.

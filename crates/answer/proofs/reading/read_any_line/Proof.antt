@@ -3,7 +3,7 @@ use mathlib.Core.List.{List}
 use borrow.Author.Needs.{needs}
 use Rattle.refusal.specs.declared.Subject.the-variants.{Answer}
 use Rattle.text.proofs.LineLaws.{not-at-end}
-use Rattle.text.proofs.ReadingLaws.{any-bad, any-blank, any-line}
+use Rattle.text.proofs.ReadingLaws.{fine-blank, fine-line}
 use Rattle.constraint.specs.File.{Variable}
 use Rattle.store.specs.Tables.{variablesIn}
 use Rattle.answer.specs.Read.{Settings, settingsOf, readAnswerLine}
@@ -18,35 +18,25 @@ variables s = variablesIn (s .args .file .now) (s .args .starts .now) (s .args .
 abbrev before : tie.Start → Settings
 before s = settingsOf (s .args .solved) (entriesIn (s .args .flags .now) (s .args .values .now) (s .args .n))
 
-scan-requires : tie.Need-scan-requires
-scan-requires c κs = search needs
-
-refusal-requires : tie.Need-refusal-requires
-refusal-requires c κs = search needs
-
-returns : tie.Need-returns
-returns c = let s = c .before .before .before .before .before in (λ next. rw (c .refusal .ensures) (any-bad Answer (readAnswerLine (variables s)) (before s) (s .args .line .now) (s .args .at) (c .before .before .scan .result) next (s .pre .0) (c .before .before .scan .ensures) (c .before .if1 .taken)), s .pre .2)
-
 all-requires : tie.Need-all-requires
 all-requires c κs = search needs
 
-returns-2 : tie.Need-returns-2
-returns-2 c = let s = c .before .before .before .before .before .before in (λ next. any-blank Answer (readAnswerLine (variables s)) (before s) (s .args .line .now) (s .args .at) (c .before .before .before .scan .result) next (s .pre .0) (c .before .before .before .scan .ensures) (c .before .before .if1 .left) (sym (c .before .all .ensures) ∙ c .if2 .taken), s .pre .2)
+returns : tie.Need-returns
+returns c =
+    let s = c .before .before .before .before in
+    (λ next. fine-blank Answer (readAnswerLine (variables s)) (before s) (s .args .line .now) (s .args .at) next (s .pre .3) (sym (c .before .all .ensures) ∙ c .if1 .taken), s .pre .2)
 
 read-line-requires : tie.Need-read-line-requires
-read-line-requires c κs = let s = c .before .before .before .before .before .before .before .before in (not-at-end (s .args .line .now) (s .args .at) (sym (c .before .before .before .all .ensures) ∙ c .before .before .if2 .left), s .pre .1, s .pre .2)
+read-line-requires c κs =
+    let b = c .before .before in
+    let s = b .before .before .before .before in
+    (not-at-end (s .args .line .now) (s .args .at) (sym (b .before .all .ensures) ∙ b .if1 .left), s .pre .1, s .pre .2)
 
-returns-3 : tie.Need-returns-3
-returns-3 c = let s = c .before .before .before .before .before .before .before .before .before in (λ next. c .read-line .ensures .0 next ∙ any-line Answer (readAnswerLine (variables s)) (before s) (s .args .line .now) (s .args .at) (c .before .before .before .before .before .before .scan .result) next (s .pre .0) (c .before .before .before .before .before .before .scan .ensures) (c .before .before .before .before .before .if1 .left) (sym (c .before .before .before .before .all .ensures) ∙ c .before .before .before .if2 .left), c .read-line .ensures .1)
+returns-2 : tie.Need-returns-2
+returns-2 c =
+    let b = c .before .before .before in
+    let s = b .before .before .before .before in
+    (λ next. c .read-line .ensures .0 next ∙ fine-line Answer (readAnswerLine (variables s)) (before s) (s .args .line .now) (s .args .at) next (s .pre .3) (sym (b .before .all .ensures) ∙ b .if1 .left), c .read-line .ensures .1)
 
 pub read-any-line-spec : {M : Type 1} → statement M
-read-any-line-spec =
-    tie.close
-    (tie.spec
-    scan-requires
-    refusal-requires
-    returns
-    all-requires
-    returns-2
-    read-line-requires
-    returns-3)
+read-any-line-spec = tie.close (tie.spec all-requires returns read-line-requires returns-2)

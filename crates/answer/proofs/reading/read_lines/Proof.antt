@@ -1,5 +1,5 @@
-use Prim.Native.Nat.{_-_, _≤_}
-use mathlib.Core.Path.{_≡_, sym}
+use Prim.Native.Nat.{_-_}
+use mathlib.Core.Path.{_≡_, sym, _∙_}
 use mathlib.Core.Bool.{false}
 use mathlib.Core.List.{List}
 use native.Mathlib.Omega.{arith}
@@ -7,10 +7,8 @@ use lib.ListN.{length, take}
 use lib.Seq.{length-take-le}
 use borrow.Author.Needs.{needs}
 use Rattle.refusal.specs.declared.Subject.the-variants.{Answer}
-use Rattle.text.specs.declared.Class.the-variants.{Until}
-use Rattle.text.specs.Scan.{isOf}
-use Rattle.text.proofs.RunLaws.{scan-bounds}
-use Rattle.text.proofs.ReadingLaws.{Reading, reading-starts, reading-ends, reading-stops, reading-goes}
+use Rattle.text.proofs.FoundLineLaws.{Ended, line-ends}
+use Rattle.text.proofs.ReadingLaws.{Reading, reading-starts, reading-ends, reading-stops, reading-goes, reading-faults}
 use Rattle.constraint.specs.File.{Variable}
 use Rattle.store.specs.Tables.{variablesIn}
 use Rattle.answer.specs.Read.{Settings, settingsOf, readAnswerLine}
@@ -32,55 +30,77 @@ variables s = variablesIn (s .args .file .now) (s .args .starts .now) (s .args .
 abbrev before : tie.Start Inv-loop μ-loop → Settings
 before s = settingsOf false (entriesIn (s .args .flags .now) (s .args .values .now) (s .args .n))
 
--- where the line ends
-bounds : (c : tie.After-scan Inv-loop μ-loop) → let l = c .before .before in (l .loop .i ≤ c .scan .result) × (c .scan .result ≤ length (l .before .before .before .args .answer .now))
-bounds c = let l = c .before .before in scan-bounds (isOf (Until 10)) (l .before .before .before .args .answer .now) (l .loop .i) (c .scan .result) (omega arith) (c .scan .ensures)
+-- the line that is found
+line : (c : tie.After-stop Inv-loop μ-loop) → let l = c .before .before .before .before in Ended (l .before .before .before .args .answer .now) (l .loop .i) (c .stop .given .0 .0) (c .stop .given .0 .1 .0)
+line c =
+    let l = c .before .before .before .before in
+    line-ends (l .before .before .before .args .answer .now) (l .loop .i) (c .before .before .before .loop-test .taken) _ _ (sym (c .stop .given .1) ∙ c .before .before .find-line .ensures)
 
-long : (c : tie.After-scan Inv-loop μ-loop) → length (take (c .scan .result) (c .before .before .before .before .before .args .answer .now)) ≡ c .scan .result
-long c = length-take-le (c .scan .result) (c .before .before .before .before .before .args .answer .now) (bounds c .1)
+long : (c : tie.After-stop Inv-loop μ-loop) → length (take (c .stop .given .0 .0) (c .before .before .before .before .before .before .before .args .answer .now)) ≡ c .stop .given .0 .0
+long c = length-take-le (c .stop .given .0 .0) (c .before .before .before .before .before .before .before .args .answer .now) (line c .within)
 
 loop-holds : tie.Need-loop-holds Inv-loop μ-loop
 loop-holds c = let s = c .before .before in (reading-starts Answer (readAnswerLine (variables s)) (before s) (s .args .answer .now), s .pre .1)
 
-scan-requires : tie.Need-scan-requires Inv-loop μ-loop
-scan-requires c κs = search needs
+find-line-requires : tie.Need-find-line-requires Inv-loop μ-loop
+find-line-requires c κs = omega arith
 
-next-line-requires : tie.Need-next-line-requires Inv-loop μ-loop
-next-line-requires c κs = bounds c .1
+enum-known-bad : tie.Need-enum-known-bad Inv-loop μ-loop
+enum-known-bad c = search needs
 
-slice-aggregate-read-any-line : tie.Need-slice-aggregate-read-any-line Inv-loop μ-loop
-slice-aggregate-read-any-line c = sym (long (c .before .before))
+refusal-requires : tie.Need-refusal-requires Inv-loop μ-loop
+refusal-requires c κs = search needs
+
+returns : tie.Need-returns Inv-loop μ-loop
+returns c =
+    let b = c .before .before in
+    let l = b .before .before .before .before in
+    let s = l .before .before .before in
+    (rw (c .refusal .ensures) (reading-faults Answer (readAnswerLine (variables s)) (before s) (s .args .answer .now) (l .loop .inv .0) (b .before .before .before .loop-test .taken) (b .bad .given .0 .0) (sym (b .bad .given .1) ∙ b .before .before .find-line .ensures)), l .loop .inv .1)
+
+enum-known-stop : tie.Need-enum-known-stop Inv-loop μ-loop
+enum-known-stop c = search needs
+
+slice-aggregate-cut : tie.Need-slice-aggregate-cut Inv-loop μ-loop
+slice-aggregate-cut c = sym (long (c .before .before))
 
 read-any-line-requires : tie.Need-read-any-line-requires Inv-loop μ-loop
-read-any-line-requires c κs = (omega (arith, long (c .before .before .before .before), bounds (c .before .before .before .before)), c .before .before .before .before .before .before .before .before .before .pre .0, c .before .before .before .before .before .before .loop .inv .1)
+read-any-line-requires c κs =
+    let a = c .before .before .before .before in
+    let l = a .before .before .before .before in
+    (omega (arith, long a, line a .begun), l .before .before .before .pre .0, l .loop .inv .1, line a .allowed)
 
 enum-known-r : tie.Need-enum-known-r Inv-loop μ-loop
 enum-known-r c = search needs
 
-returns : tie.Need-returns Inv-loop μ-loop
-returns c =
-    let s = c .before .before .before .before .before .before .before .before .before .before .before .before .before in
-    let m = c .before .before .before .before .before .before .before .before in
-    let n = c .before .before .before .before .before .before .before in
+returns-2 : tie.Need-returns-2 Inv-loop μ-loop
+returns-2 c =
     let r = c .before .before .before in
-    (reading-stops Answer (readAnswerLine (variables s)) (before s) (s .args .answer .now) (c .before .before .before .before .before .before .before .before .before .before .loop .inv .0) (m .scan .result) (n .next-line .result) (omega arith) (m .scan .ensures) (n .next-line .ensures) (c .before .r .given .0 .0) (rw (c .before .r .given .1) at (r .read-any-line .ensures .0 (n .next-line .result))), r .read-any-line .ensures .1)
+    let a = r .before .before .before .before .before in
+    let l = a .before .before .before .before in
+    let s = l .before .before .before in
+    let next = a .stop .given .0 .1 .0 in
+    (reading-stops Answer (readAnswerLine (variables s)) (before s) (s .args .answer .now) (l .loop .inv .0) (a .before .before .before .loop-test .taken) (a .stop .given .0 .0) next (line a) (c .before .r .given .0 .0) (rw (c .before .r .given .1) at (r .read-any-line .ensures .0 next)), r .read-any-line .ensures .1)
 
 enum-known-s : tie.Need-enum-known-s Inv-loop μ-loop
 enum-known-s c = search needs
 
 loop-less : tie.Need-loop-less Inv-loop μ-loop
-loop-less c = omega (arith, bounds (c .before .before .before .before .before .before .before .before), c .before .before .before .before .before .before .before .next-line .ensures)
+loop-less c =
+    let a = c .before .before .before .before .before .before .before .before in
+    omega (arith, line a .forward, line a .inside)
 
 loop-again : tie.Need-loop-again Inv-loop μ-loop
 loop-again c =
-    let s = c .before .before .before .before .before .before .before .before .before .before .before .before .before in
-    let m = c .before .before .before .before .before .before .before .before in
-    let n = c .before .before .before .before .before .before .before in
     let r = c .before .before .before in
-    (reading-goes Answer (readAnswerLine (variables s)) (before s) (s .args .answer .now) (c .before .before .before .before .before .before .before .before .before .before .loop .inv .0) (m .scan .result) (n .next-line .result) (omega arith) (m .scan .ensures) (n .next-line .ensures) _ (rw (c .before .s .given .1) at (r .read-any-line .ensures .0 (n .next-line .result))), r .read-any-line .ensures .1)
+    let a = r .before .before .before .before .before in
+    let l = a .before .before .before .before in
+    let s = l .before .before .before in
+    let next = a .stop .given .0 .1 .0 in
+    (reading-goes Answer (readAnswerLine (variables s)) (before s) (s .args .answer .now) (l .loop .inv .0) (a .before .before .before .loop-test .taken) (a .stop .given .0 .0) next (line a) _ (rw (c .before .s .given .1) at (r .read-any-line .ensures .0 next)), r .read-any-line .ensures .1)
 
-returns-2 : tie.Need-returns-2 Inv-loop μ-loop
-returns-2 c = let s = c .before .before .before .before in (reading-ends Answer (readAnswerLine (variables s)) (before s) (s .args .answer .now) (c .before .loop .inv .0) (c .loop-test .left), c .before .loop .inv .1)
+returns-3 : tie.Need-returns-3 Inv-loop μ-loop
+returns-3 c = let s = c .before .before .before .before in (reading-ends Answer (readAnswerLine (variables s)) (before s) (s .args .answer .now) (c .before .loop .inv .0) (c .loop-test .left), c .before .loop .inv .1)
 
 pub read-lines-spec : {M : Type 1} → statement M
 read-lines-spec =
@@ -89,13 +109,16 @@ read-lines-spec =
     Inv-loop
     μ-loop
     loop-holds
-    scan-requires
-    next-line-requires
-    slice-aggregate-read-any-line
+    find-line-requires
+    enum-known-bad
+    refusal-requires
+    returns
+    enum-known-stop
+    slice-aggregate-cut
     read-any-line-requires
     enum-known-r
-    returns
+    returns-2
     enum-known-s
     loop-less
     loop-again
-    returns-2)
+    returns-3)
