@@ -1,9 +1,8 @@
-/* Times spear_check against plain_check on files made here. Every file is satisfied. */
+/* Times spear_check against plain_check, compiled at -O2 and at -O3, on files made here. Every file is satisfied. */
 
 #define _POSIX_C_SOURCE 199309L
 
 #include "../include/spear.h"
-#include "plain.h"
 
 #include <inttypes.h>
 #include <stdarg.h>
@@ -311,6 +310,11 @@ static void make_files(struct files *files, const struct input *input)
 /* Measuring. */
 
 typedef uint32_t check(const uint8_t *, size_t, const uint8_t *, size_t);
+typedef uint32_t change(const uint8_t *, size_t, uint64_t *, uint8_t *, size_t, uint64_t);
+
+/* plain.h's functions: the Makefile compiles plain.c twice, and renames them. */
+check plain_check_o2, plain_check_o3;
+change plain_change_o2, plain_change_o3;
 
 static double now(void)
 {
@@ -355,30 +359,41 @@ static void measure(struct measurement *of, const struct files *files)
         of->best = seconds;
 }
 
-/* The two take turns, so that both meet the same state of the machine. */
+static struct measurement measurement_of(check *checker, const struct files *files)
+{
+    return (struct measurement){checker, enough_repetitions(checker, files), 0};
+}
+
+/* They take turns, so that all meet the same state of the machine. */
+static void take_turns(struct measurement *checkers, size_t count, const struct files *files)
+{
+    for (int round = 0; round < ROUNDS; round++)
+        for (size_t i = 0; i < count; i++)
+            measure(&checkers[i], files);
+}
+
 static void report(const struct input *input)
 {
     static struct files files;
     make_files(&files, input);
     uint32_t spear_reply = reply_of(spear_check, &files);
-    uint32_t plain_reply = reply_of(plain_check, &files);
+    uint32_t plain_reply = reply_of(plain_check_o2, &files);
     printf("%-26s", input->name);
     if (spear_reply != plain_reply || plain_reply != 0) {
         printf(" replies %" PRIu32 " and %" PRIu32 "\n", spear_reply, plain_reply);
         exit(EXIT_FAILURE);
     }
-    struct measurement spear = {spear_check, enough_repetitions(spear_check, &files), 0};
-    struct measurement plain = {plain_check, enough_repetitions(plain_check, &files), 0};
-    for (int round = 0; round < ROUNDS; round++) {
-        measure(&spear, &files);
-        measure(&plain, &files);
-    }
+    struct measurement by[] = {
+        measurement_of(spear_check, &files),
+        measurement_of(plain_check_o2, &files),
+        measurement_of(plain_check_o3, &files),
+    };
+    take_turns(by, sizeof by / sizeof *by, &files);
     size_t file = files.constraints.length, answer = files.answer.length;
-    printf(" %7zu %7zu %10.3f %10.3f %7.2f", file, answer, 1e6 * spear.best, 1e6 * plain.best,
-           spear.best / plain.best);
+    printf(" %7zu %7zu %9.3f %9.3f %9.3f %7.2f %7.2f", file, answer, 1e6 * by[0].best,
+           1e6 * by[1].best, 1e6 * by[2].best, by[0].best / by[1].best, by[0].best / by[2].best);
     if (input->variable_count == GROUP)
-        printf(" %10.2f %10.2f", 1e9 * spear.best / (double)(file + answer),
-               1e9 * plain.best / (double)(file + answer));
+        printf(" %10.2f", 1e9 * by[0].best / (double)(file + answer));
     printf("\n");
 }
 
@@ -403,11 +418,18 @@ static uint32_t flip(const uint8_t *constraints, size_t constraints_len, const u
     return SPEAR_KIND(word) == SPEAR_KIND_REFUSED;
 }
 
-static uint32_t plain_flip(const uint8_t *constraints, size_t constraints_len, const uint8_t *answer,
-                           size_t answer_len)
+static uint32_t plain_flip_o2(const uint8_t *constraints, size_t constraints_len,
+                              const uint8_t *answer, size_t answer_len)
 {
     (void)answer, (void)answer_len;
-    return plain_change(constraints, constraints_len, values, verdicts, 0, values[0] ^ 1) >= 100;
+    return plain_change_o2(constraints, constraints_len, values, verdicts, 0, values[0] ^ 1) >= 100;
+}
+
+static uint32_t plain_flip_o3(const uint8_t *constraints, size_t constraints_len,
+                              const uint8_t *answer, size_t answer_len)
+{
+    (void)answer, (void)answer_len;
+    return plain_change_o3(constraints, constraints_len, values, verdicts, 0, values[0] ^ 1) >= 100;
 }
 
 /* A flip by one program and then by the other must leave the verdicts as the first check did. */
@@ -415,7 +437,7 @@ static void compare_flips(const struct files *files)
 {
     static uint8_t before[LINES];
     memcpy(before, verdicts, sizeof before);
-    if (reply_of(flip, files) != 0 || reply_of(plain_flip, files) != 0)
+    if (reply_of(flip, files) != 0 || reply_of(plain_flip_o2, files) != 0)
         fail("a flip is refused");
     if (memcmp(before, verdicts, sizeof before) != 0)
         fail("the flips differ");
@@ -428,17 +450,17 @@ static void report_flips(const struct input *input)
     if (reply_of(check_tables, &files) != 0)
         fail("the check isn't satisfied");
     compare_flips(&files);
-    struct measurement check = {check_tables, enough_repetitions(check_tables, &files), 0};
-    struct measurement spear = {flip, enough_repetitions(flip, &files), 0};
-    struct measurement plain = {plain_flip, enough_repetitions(plain_flip, &files), 0};
-    for (int round = 0; round < ROUNDS; round++) {
-        measure(&check, &files);
-        measure(&spear, &files);
-        measure(&plain, &files);
-    }
-    printf("%-26s check %.1f us, flip %.1f us (%.2f of the check), plain flip %.1f us (ratio %.2f)\n",
-           input->name, 1e6 * check.best, 1e6 * spear.best, spear.best / check.best,
-           1e6 * plain.best, spear.best / plain.best);
+    struct measurement by[] = {
+        measurement_of(check_tables, &files),
+        measurement_of(flip, &files),
+        measurement_of(plain_flip_o2, &files),
+        measurement_of(plain_flip_o3, &files),
+    };
+    take_turns(by, sizeof by / sizeof *by, &files);
+    printf("%-26s check %.1f us, flip %.1f us (%.2f of the check), plain flip %.1f and %.1f us "
+           "(ratio %.2f and %.2f)\n",
+           input->name, 1e6 * by[0].best, 1e6 * by[1].best, by[1].best / by[0].best,
+           1e6 * by[2].best, 1e6 * by[3].best, by[1].best / by[2].best, by[1].best / by[3].best);
 }
 
 int main(void)
@@ -452,8 +474,8 @@ int main(void)
         {"256 variables, 1024 lines", 256, 12, 1024},
         {"256 variables, no lines", 256, 12, 0},
     };
-    printf("%-26s %7s %7s %10s %10s %7s %10s %10s\n", "input", "file B", "answ. B", "spear us",
-           "plain us", "ratio", "spear ns/B", "plain ns/B");
+    printf("%-26s %7s %7s %9s %9s %9s %7s %7s %10s\n", "input", "file B", "answ. B", "spear us",
+           "-O2 us", "-O3 us", "to -O2", "to -O3", "spear ns/B");
     for (size_t i = 0; i < sizeof inputs / sizeof *inputs; i++)
         report(&inputs[i]);
     const struct input flips[] = {inputs[4], inputs[5]};

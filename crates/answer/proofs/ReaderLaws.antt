@@ -27,8 +27,8 @@ unfolding readAnswerLine
 of-kind k xs s l e d = ap (λ x. readAnswerAs x xs s l) (sym d ∙ e)
 
 -- while all flags are 0 nothing is set
-pub nothing-set : (file starts lens widths values : List ℕ) (m n : ℕ) → n ≤ m → settingsOf false (entriesIn (replicate m 0) values n) ≡ noSettings (variablesIn file starts lens widths n)
-nothing-set file starts lens widths values m n h = rw (variables-length file starts lens widths n) (ap (settingsOf false) (entries-none values m n h))
+pub nothing-set : (file variables values : List ℕ) (m n : ℕ) → n ≤ m → settingsOf false (entriesIn (replicate m 0) values n) ≡ noSettings (variablesIn file variables n)
+nothing-set file variables values m n h = rw (variables-length file variables n) (ap (settingsOf false) (entries-none values m n h))
 
 -- ---- the whole answer
 module _ (xs : List Variable) (bytes : List ℕ) where

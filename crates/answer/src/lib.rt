@@ -4,7 +4,8 @@ use reading::read_answer;
 use refusal::Refusal;
 use refusal::Subject;
 use rows::store_row;
-use store::lines::TABLE_WORDS;
+use store::lines::TABLE_BODIES;
+use store::lines::TABLE_HEADS;
 ghost use mathlib.Core.Path.{_≡_};
 ghost use Rattle.answer.specs.Call.{readOutcome};
 
@@ -58,16 +59,15 @@ pub enum ReadReply {
 pub fn read(constraint: &[u8], answer: &[u8], values: &mut [u64]) -> ReadReply
     ensures { λ r. ⌜ record { reply = r; values = now (values .exit) } ≡ readOutcome (now (constraint .entry)) (now (answer .entry)) (now (values .entry)) ⌝ }
 {
-    let mut starts = [0usize; Edition::VARIABLES];
-    let mut lens = [0usize; Edition::VARIABLES];
-    let mut widths = [0u64; Edition::VARIABLES];
-    let mut lines = [0u64; TABLE_WORDS];
-    match reader::reading::read(constraint, &mut starts, &mut lens, &mut widths, &mut lines) {
+    let mut variables = [0u64; Edition::VARIABLES];
+    let mut heads = [0u8; TABLE_HEADS];
+    let mut bodies = [0u64; TABLE_BODIES];
+    match reader::reading::read(constraint, &mut variables, &mut heads, &mut bodies) {
         store::Step::Stop(r) => ReadReply::Refused(r),
         store::Step::Next(p) => {
             let n = p.variables;
             let mut row = [0u64; Edition::VARIABLES];
-            match read_answer(constraint, &starts, &lens, &widths, n, answer, &mut row) {
+            match read_answer(constraint, &variables, n, answer, &mut row) {
                 AnswerRead::Fault(r) => ReadReply::Refused(r),
                 AnswerRead::Complete => {
                     if values.len() < n {

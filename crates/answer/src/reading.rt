@@ -46,11 +46,9 @@ fn kind_of(line: &[u8], at: usize) -> AnswerLine
 }
 
 // Reads the line from `at` to the end; it is not blank.
-fn read_line<'a>(
+fn read_line(
     file: &[u8],
-    starts: &'a [usize; Edition::VARIABLES],
-    lens: &'a [usize; Edition::VARIABLES],
-    widths: &'a [u64; Edition::VARIABLES],
+    variables: &[u64; Edition::VARIABLES],
     n: usize,
     line: &[u8],
     at: usize,
@@ -59,33 +57,20 @@ fn read_line<'a>(
     solved: bool,
 ) -> AnswerProgress
     requires { ⌜ (at < length (now line)) × (n ≤ maxVariables) × SettingsSized (now flags) (now values) ⌝ }
-    ensures { λ r. ⌜ ((next : ℕ) → answerStep (entriesIn (now (flags .exit)) (now (values .exit)) n) r ≡ readAnswerLine (variablesIn (now (file .entry)) (now (starts .entry)) (now (lens .entry)) (now (widths .entry)) n) (settingsOf solved (entriesIn (now (flags .entry)) (now (values .entry)) n)) (lineAt (now (line .entry)) at next)) × SettingsSized (now (flags .exit)) (now (values .exit)) ⌝ }
+    ensures { λ r. ⌜ ((next : ℕ) → answerStep (entriesIn (now (flags .exit)) (now (values .exit)) n) r ≡ readAnswerLine (variablesIn (now (file .entry)) (now (variables .entry)) n) (settingsOf solved (entriesIn (now (flags .entry)) (now (values .entry)) n)) (lineAt (now (line .entry)) at next)) × SettingsSized (now (flags .exit)) (now (values .exit)) ⌝ }
 {
     match kind_of(line, at) {
         AnswerLine::OfComment => AnswerProgress::Next(solved),
         AnswerLine::OfSolution => solution_line(line, at, solved),
-        AnswerLine::OfValues => value_line(
-            file,
-            starts,
-            lens,
-            widths,
-            n,
-            line,
-            at,
-            flags,
-            values,
-            solved,
-        ),
+        AnswerLine::OfValues => value_line(file, variables, n, line, at, flags, values, solved),
         AnswerLine::OfNoKind => AnswerProgress::Stop(refusal(Refusal::UNKNOWN_LINE, at)),
     }
 }
 
 // Reads any line whose bytes are allowed: a blank line is passed over.
-fn read_any_line<'a>(
+fn read_any_line(
     file: &[u8],
-    starts: &'a [usize; Edition::VARIABLES],
-    lens: &'a [usize; Edition::VARIABLES],
-    widths: &'a [u64; Edition::VARIABLES],
+    variables: &[u64; Edition::VARIABLES],
     n: usize,
     line: &[u8],
     at: usize,
@@ -94,38 +79,25 @@ fn read_any_line<'a>(
     solved: bool,
 ) -> AnswerProgress
     requires { ⌜ (at ≤ length (now line)) × (n ≤ maxVariables) × SettingsSized (now flags) (now values) × (every (isOf Allowed) (drop at (now line)) ≡ true) ⌝ }
-    ensures { λ r. ⌜ ((next : ℕ) → answerStep (entriesIn (now (flags .exit)) (now (values .exit)) n) r ≡ readAnyLine Answer (readAnswerLine (variablesIn (now (file .entry)) (now (starts .entry)) (now (lens .entry)) (now (widths .entry)) n)) (settingsOf solved (entriesIn (now (flags .entry)) (now (values .entry)) n)) (lineAt (now (line .entry)) at next)) × SettingsSized (now (flags .exit)) (now (values .exit)) ⌝ }
+    ensures { λ r. ⌜ ((next : ℕ) → answerStep (entriesIn (now (flags .exit)) (now (values .exit)) n) r ≡ readAnyLine Answer (readAnswerLine (variablesIn (now (file .entry)) (now (variables .entry)) n)) (settingsOf solved (entriesIn (now (flags .entry)) (now (values .entry)) n)) (lineAt (now (line .entry)) at next)) × SettingsSized (now (flags .exit)) (now (values .exit)) ⌝ }
 {
     if all(line, at, Class::Space) {
         return AnswerProgress::Next(solved);
     }
-    read_line(
-        file,
-        starts,
-        lens,
-        widths,
-        n,
-        line,
-        at,
-        flags,
-        values,
-        solved,
-    )
+    read_line(file, variables, n, line, at, flags, values, solved)
 }
 
 // Reads all lines.
-fn read_lines<'a>(
+fn read_lines(
     file: &[u8],
-    starts: &'a [usize; Edition::VARIABLES],
-    lens: &'a [usize; Edition::VARIABLES],
-    widths: &'a [u64; Edition::VARIABLES],
+    variables: &[u64; Edition::VARIABLES],
     n: usize,
     answer: &[u8],
     flags: &mut [u8; Edition::VARIABLES],
     values: &mut [u64; Edition::VARIABLES],
 ) -> AnswerProgress
     requires { ⌜ (n ≤ maxVariables) × SettingsSized (now flags) (now values) ⌝ }
-    ensures { λ r. ⌜ (answerStep (entriesIn (now (flags .exit)) (now (values .exit)) n) r ≡ readLines Answer (readAnswerLine (variablesIn (now (file .entry)) (now (starts .entry)) (now (lens .entry)) (now (widths .entry)) n)) (settingsOf false (entriesIn (now (flags .entry)) (now (values .entry)) n)) (textLines (now (answer .entry)))) × SettingsSized (now (flags .exit)) (now (values .exit)) ⌝ }
+    ensures { λ r. ⌜ (answerStep (entriesIn (now (flags .exit)) (now (values .exit)) n) r ≡ readLines Answer (readAnswerLine (variablesIn (now (file .entry)) (now (variables .entry)) n)) (settingsOf false (entriesIn (now (flags .entry)) (now (values .entry)) n)) (textLines (now (answer .entry)))) × SettingsSized (now (flags .exit)) (now (values .exit)) ⌝ }
 {
     let mut solved = false;
     let mut i = 0;
@@ -136,7 +108,7 @@ fn read_lines<'a>(
             }
             LineFound::Ends(stop, next) => {
                 let cut = &answer[..stop];
-                match read_any_line(file, starts, lens, widths, n, cut, i, flags, values, solved) {
+                match read_any_line(file, variables, n, cut, i, flags, values, solved) {
                     AnswerProgress::Stop(r) => {
                         return AnswerProgress::Stop(r);
                     }
@@ -167,23 +139,21 @@ fn all_set(flags: &[u8; Edition::VARIABLES], n: usize) -> bool
 }
 
 // Reads an answer to the n variables of a file into a row; what is behind the first n values of the row is left open.
-pub fn read_answer<'a>(
+pub fn read_answer(
     file: &[u8],
-    starts: &'a [usize; Edition::VARIABLES],
-    lens: &'a [usize; Edition::VARIABLES],
-    widths: &'a [u64; Edition::VARIABLES],
+    variables: &[u64; Edition::VARIABLES],
     n: usize,
     answer: &[u8],
     row: &mut [u64; Edition::VARIABLES],
 ) -> AnswerRead
     requires { ⌜ (n ≤ maxVariables) × (length (now row) ≡ maxVariables) ⌝ }
-    ensures { λ r. ⌜ (answerResult (now (row .exit)) n r ≡ readAnswer (variablesIn (now (file .entry)) (now (starts .entry)) (now (lens .entry)) (now (widths .entry)) n) (now (answer .entry))) × (length (now (row .exit)) ≡ maxVariables) ⌝ }
+    ensures { λ r. ⌜ (answerResult (now (row .exit)) n r ≡ readAnswer (variablesIn (now (file .entry)) (now (variables .entry)) n) (now (answer .entry))) × (length (now (row .exit)) ≡ maxVariables) ⌝ }
 {
     if Edition::FILE_BYTES < answer.len() {
         return AnswerRead::Fault(refusal(Refusal::FILE_TOO_LONG, Edition::FILE_BYTES));
     }
     let mut flags = [0u8; Edition::VARIABLES];
-    match read_lines(file, starts, lens, widths, n, answer, &mut flags, row) {
+    match read_lines(file, variables, n, answer, &mut flags, row) {
         AnswerProgress::Stop(r) => AnswerRead::Fault(r),
         AnswerProgress::Next(solved) => {
             if !solved {

@@ -8,7 +8,7 @@ use edition::Edition;
 use refusal::Refusal;
 use store::Found;
 use store::names::lookup;
-use store::widths::width_of;
+use store::variables::width_of;
 use text::Class;
 use text::NextToken;
 use text::Number;
@@ -29,26 +29,24 @@ ghost use Rattle.answer.specs.Read.{settingsOf, settingOf, readSettings,
 ghost use Rattle.answer.specs.Internal.{settingResult, settingNamed, SettingIn, entriesIn, SettingsSized, answerStep, settingsResult};
 
 // The setting of the variable named from `at` to the end of the text, to the value v.
-fn setting_of<'a>(
+fn setting_of(
     file: &[u8],
-    starts: &'a [usize; Edition::VARIABLES],
-    lens: &'a [usize; Edition::VARIABLES],
-    widths: &'a [u64; Edition::VARIABLES],
+    variables: &[u64; Edition::VARIABLES],
     n: usize,
     text: &[u8],
     at: usize,
     v: u64,
 ) -> Setting
     requires { ⌜ (at ≤ length (now text)) × (n ≤ maxVariables) ⌝ }
-    ensures { λ r. ⌜ (r ≡ settingNamed (variablesIn (now (file .entry)) (now (starts .entry)) (now (lens .entry)) (now (widths .entry)) n) (drop at (now (text .entry))) v) × SettingIn n r ⌝ }
+    ensures { λ r. ⌜ (r ≡ settingNamed (variablesIn (now (file .entry)) (now (variables .entry)) n) (drop at (now (text .entry))) v) × SettingIn n r ⌝ }
 {
     if Edition::NAME_BYTES < text.len() - at {
         return Setting::Faulty(Refusal::OVER_LIMIT);
     }
-    match lookup(file, starts, lens, n, text, at) {
+    match lookup(file, variables, n, text, at) {
         Found::Nowhere => Setting::Faulty(Refusal::NOT_DECLARED),
         Found::At(i) => if fits(Word {
-            width: width_of(widths, n, i),
+            width: width_of(variables, n, i),
             value: v,
         }) {
             Setting::Set(i, v)
@@ -59,17 +57,15 @@ fn setting_of<'a>(
 }
 
 // The setting from `at` to the end of the text.
-fn setting<'a>(
+fn setting(
     file: &[u8],
-    starts: &'a [usize; Edition::VARIABLES],
-    lens: &'a [usize; Edition::VARIABLES],
-    widths: &'a [u64; Edition::VARIABLES],
+    variables: &[u64; Edition::VARIABLES],
     n: usize,
     text: &[u8],
     at: usize,
 ) -> Setting
     requires { ⌜ (at ≤ length (now text)) × (n ≤ maxVariables) ⌝ }
-    ensures { λ r. ⌜ (settingResult (tokenAt (now (text .entry)) at) r ≡ settingOf (variablesIn (now (file .entry)) (now (starts .entry)) (now (lens .entry)) (now (widths .entry)) n) (tokenAt (now (text .entry)) at)) × SettingIn n r ⌝ }
+    ensures { λ r. ⌜ (settingResult (tokenAt (now (text .entry)) at) r ≡ settingOf (variablesIn (now (file .entry)) (now (variables .entry)) n) (tokenAt (now (text .entry)) at)) × SettingIn n r ⌝ }
 {
     let equals = scan(text, at, Class::Until(b'='));
     let number = number_behind(text, equals, MAX_DIGITS);
@@ -77,7 +73,7 @@ fn setting<'a>(
         match number {
             Number::Misspelt => Setting::Faulty(Refusal::MISSPELT),
             Number::TooBig => Setting::Faulty(Refusal::NUMBER_TOO_LARGE),
-            Number::Value(v) => setting_of(file, starts, lens, widths, n, &text[..equals], at, v),
+            Number::Value(v) => setting_of(file, variables, n, &text[..equals], at, v),
         }
     } else {
         Setting::Faulty(Refusal::MISSPELT)
@@ -85,11 +81,9 @@ fn setting<'a>(
 }
 
 // Stores the settings of the line that stops at `stop`, from `at` on.
-fn set_all<'a>(
+fn set_all(
     file: &[u8],
-    starts: &'a [usize; Edition::VARIABLES],
-    lens: &'a [usize; Edition::VARIABLES],
-    widths: &'a [u64; Edition::VARIABLES],
+    variables: &[u64; Edition::VARIABLES],
     n: usize,
     line: &[u8],
     at: usize,
@@ -97,7 +91,7 @@ fn set_all<'a>(
     values: &mut [u64; Edition::VARIABLES],
 ) -> AnswerProgress
     requires { ⌜ (at ≤ length (now line)) × (n ≤ maxVariables) × SettingsSized (now flags) (now values) ⌝ }
-    ensures { λ r. ⌜ (settingsResult (entriesIn (now (flags .exit)) (now (values .exit)) n) r ≡ readSettings (variablesIn (now (file .entry)) (now (starts .entry)) (now (lens .entry)) (now (widths .entry)) n) (entriesIn (now (flags .entry)) (now (values .entry)) n) (tokensFrom true at (drop at (now (line .entry))))) × SettingsSized (now (flags .exit)) (now (values .exit)) ⌝ }
+    ensures { λ r. ⌜ (settingsResult (entriesIn (now (flags .exit)) (now (values .exit)) n) r ≡ readSettings (variablesIn (now (file .entry)) (now (variables .entry)) n) (entriesIn (now (flags .entry)) (now (values .entry)) n) (tokensFrom true at (drop at (now (line .entry))))) × SettingsSized (now (flags .exit)) (now (values .exit)) ⌝ }
 {
     let mut i = at;
     while i < line.len() {
@@ -108,7 +102,7 @@ fn set_all<'a>(
             NextToken::OneMore(t) => {
                 let start = t.start;
                 let stop = t.stop;
-                match setting(file, starts, lens, widths, n, &line[..stop], start) {
+                match setting(file, variables, n, &line[..stop], start) {
                     Setting::Faulty(number) => {
                         return AnswerProgress::Stop(refusal(number, start));
                     }
@@ -128,11 +122,9 @@ fn set_all<'a>(
 }
 
 // The `v` line from `at` to the end.
-pub(crate) fn value_line<'a>(
+pub(crate) fn value_line(
     file: &[u8],
-    starts: &'a [usize; Edition::VARIABLES],
-    lens: &'a [usize; Edition::VARIABLES],
-    widths: &'a [u64; Edition::VARIABLES],
+    variables: &[u64; Edition::VARIABLES],
     n: usize,
     line: &[u8],
     at: usize,
@@ -141,13 +133,13 @@ pub(crate) fn value_line<'a>(
     solved: bool,
 ) -> AnswerProgress
     requires { ⌜ (at < length (now line)) × (n ≤ maxVariables) × SettingsSized (now flags) (now values) ⌝ }
-    ensures { λ r. ⌜ ((next : ℕ) → answerStep (entriesIn (now (flags .exit)) (now (values .exit)) n) r ≡ readValues (variablesIn (now (file .entry)) (now (starts .entry)) (now (lens .entry)) (now (widths .entry)) n) (settingsOf solved (entriesIn (now (flags .entry)) (now (values .entry)) n)) (lineAt (now (line .entry)) at next)) × SettingsSized (now (flags .exit)) (now (values .exit)) ⌝ }
+    ensures { λ r. ⌜ ((next : ℕ) → answerStep (entriesIn (now (flags .exit)) (now (values .exit)) n) r ≡ readValues (variablesIn (now (file .entry)) (now (variables .entry)) n) (settingsOf solved (entriesIn (now (flags .entry)) (now (values .entry)) n)) (lineAt (now (line .entry)) at next)) × SettingsSized (now (flags .exit)) (now (values .exit)) ⌝ }
 {
     if !solved {
         return AnswerProgress::Stop(refusal(Refusal::MISPLACED_LINE, at));
     }
     let next = at + 1;
-    match set_all(file, starts, lens, widths, n, line, next, flags, values) {
+    match set_all(file, variables, n, line, next, flags, values) {
         AnswerProgress::Next(_) => AnswerProgress::Next(true),
         AnswerProgress::Stop(r) => AnswerProgress::Stop(r),
     }

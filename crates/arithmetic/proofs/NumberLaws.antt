@@ -67,3 +67,38 @@ give-back (Extend Sext) = refl
 give-back (Extend Zext) = refl
 give-back Conc = refl
 give-back Extr = refl
+
+-- the number of an operator is no more than the last
+pub number-most : (op : Operator) → operatorNumber op ≤ 30
+unfolding operatorNumber bitwiseNumber comparisonNumber arithmeticNumber divisionNumber shiftNumber extensionNumber
+number-most (Combine And) = omega arith
+number-most (Combine Or) = omega arith
+number-most (Combine Xor) = omega arith
+number-most Not = omega arith
+number-most Implies = omega arith
+number-most (Compare Equal) = omega arith
+number-most (Compare NotEqual) = omega arith
+number-most (Compare Ule) = omega arith
+number-most (Compare Uge) = omega arith
+number-most (Compare Ult) = omega arith
+number-most (Compare Ugt) = omega arith
+number-most (Compare Sle) = omega arith
+number-most (Compare Sge) = omega arith
+number-most (Compare Slt) = omega arith
+number-most (Compare Sgt) = omega arith
+number-most Ite = omega arith
+number-most (Compute Add) = omega arith
+number-most (Compute Sub) = omega arith
+number-most (Compute Mul) = omega arith
+number-most (Divide Udiv) = omega arith
+number-most (Divide Sdiv) = omega arith
+number-most (Divide Urem) = omega arith
+number-most (Divide Srem) = omega arith
+number-most (Move Shl) = omega arith
+number-most (Move Ashr) = omega arith
+number-most (Move Lshr) = omega arith
+number-most Trun = omega arith
+number-most (Extend Sext) = omega arith
+number-most (Extend Zext) = omega arith
+number-most Conc = omega arith
+number-most Extr = omega arith

@@ -24,9 +24,9 @@ use Rattle.text.proofs.TokenLaws.{up-to, behind-it, arguments-at, end-at}
 use Rattle.constraint.specs.File.{File, withVersion, withExpectation}
 use Rattle.constraint.specs.Read.{inHeader, readSingle, maxVersionDigits, versionOf, expectationOf, readVersion, readExpectation}
 use Rattle.store.specs.declared.Progress.{Progress}
-use Rattle.store.specs.Tables.{Store, lineIn, linesIn}
+use Rattle.store.specs.Tables.{Store}
 use Rattle.store.specs.Progress.{storedFile}
-use Rattle.store.proofs.TableLaws.{length-tabulate}
+use Rattle.store.proofs.LineTableLaws.{lines-length}
 use Rattle.declaration.specs.declared.HeaderLine.{HeaderLine}
 use Rattle.declaration.specs.declared.HeaderLine.the-variants.{VersionLine, ExpectationLine}
 use Rattle.declaration.specs.declared.HeaderToken.{HeaderToken}
@@ -34,8 +34,8 @@ use Rattle.declaration.specs.Internal.{editionBy, editionToken, numberTo
 
 -- the header goes on while no line is held
 pub in-header : (bytes : List ℕ) (t : Store) (p : Progress) → inHeader (storedFile bytes t p) ≡ eqb (p .lines) 0
-unfolding inHeader linesIn
-in-header bytes t p = ap (λ (n : ℕ). eqb n 0) (length-tabulate (lineIn (t .lines)) (p .lines))
+unfolding inHeader
+in-header bytes t p = ap (λ (n : ℕ). eqb n 0) (lines-length (t .heads) (t .bodies) (p .lines))
 
 -- a number that is too big is neither 1 nor 0
 too-big : (d k : ℕ) → k < numberBound → ltb d numberBound ≡ false → eqb d k ≡ false

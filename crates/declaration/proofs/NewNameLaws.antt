@@ -3,7 +3,7 @@ use Prim.Native.Nat.{ℕ, _+_, _-_, _≤_, _<_}
 use Prim.Native.Char.{code}
 use mathlib.Core.Path.{_≡_, refl, ap, sym, _∙_}
 use mathlib.Core.Bool.{Bool, true, false, cond, not, _&&_}
-use mathlib.Core.List.{List}
+use mathlib.Core.List.{List, [], _∷_}
 use mathlib.Core.Option.{none, some}
 use native.Mathlib.Decide.{decLt}
 use native.Mathlib.Numerals.{add-one}
@@ -11,12 +11,13 @@ use native.Mathlib.Omega.{arith}
 use lib.Dec.{eqb, leb, ltb}
 use lib.ListN.{length, getD, take, drop, length-drop, drop-of-length-le}
 use lib.Seq.{drop-cons, drop-drop}
-use borrow.Author.Tests.{le-leb, lt-leb, lt-ltb, le-ltb, not-false}
+use borrow.Author.Tests.{le-leb, lt-leb, lt-ltb, le-ltb, leb-true, not-false}
 use Rattle.edition.specs.declared.Edition.{Edition}
-use Rattle.edition.specs.Edition.{maxVariables, maxNameBytes, isWidth}
+use Rattle.edition.specs.Edition.{maxVariables, maxNameBytes, maxWidth, isWidth}
 use Rattle.refusal.specs.Numbers.{misspelt, notAWidth, overLimit, nameTaken}
 use Rattle.refusal.specs.Lists.{every, isThere}
 use Rattle.refusal.specs.Result.{accepted, ensure, _>>_}
+use Rattle.refusal.proofs.BoolLaws.{and-true}
 use Rattle.text.specs.declared.Class.the-variants.{Until, Solid}
 use Rattle.text.specs.declared.TypeRead.{TypeRead}
 use Rattle.text.specs.declared.TypeRead.the-variants.{Width, NoWidth, NoType}
@@ -112,5 +113,25 @@ module _ (e : Edition) (xs : List Variable) where
 
 -- what fits into the front of a text fits into the text
 pub fits-within : (d : Declaration) (n start m end : ℕ) → m ≤ end → FreshFits n start m d → FreshFits n start end d
-fits-within (Fresh len k) n start m end h f = (f .0, omega arith)
+fits-within (Fresh len k) n start m end h f = (f .0, omega arith, f .2, f .3)
 fits-within (Faulty number) n start m end h f = tt
+
+-- a width that is read is within the limit
+abbrev WidthFits : TypeRead → Type 0
+WidthFits (Width k) = k ≤ maxWidth
+WidthFits NoWidth = Unit {0}
+WidthFits NoType = Unit {0}
+
+fits-split : (colon type width : Bool) (k : ℕ) → (width ≡ true → k ≤ maxWidth) → WidthFits (cond colon (cond type (cond width (Width k) NoWidth) NoType) NoType)
+fits-split true true true k h = h refl
+fits-split true true false k h = tt
+fits-split true false width k h = tt
+fits-split false type width k h = tt
+
+type-fits : (s : List ℕ) → WidthFits (typeBehindColon s)
+unfolding typeBehindColon typeOf isWidth
+type-fits [] = tt
+type-fits (b ∷ s) = fits-split (eqb b (code ":")) (isType s) _ (typeWidth s) (λ e. leb-true (typeWidth s) maxWidth (and-true (leb 1 (typeWidth s)) (leb (typeWidth s) maxWidth) e .1))
+
+pub width-fits : (s : List ℕ) (type : TypeRead) → type ≡ typeBehindColon s → (k : ℕ) → type ≡ Width k → k ≤ maxWidth
+width-fits s type e k q = rw (← e, q) at (type-fits s)

@@ -6,7 +6,7 @@ use mathlib.Core.Option.{Option, none, some}
 use lib.Dec.{leb, ltb}
 use lib.ListN.{length, take}
 use Rattle.edition.specs.declared.Edition.{Edition}
-use Rattle.edition.specs.Edition.{editionNumbered, maxVariables, maxNameBytes}
+use Rattle.edition.specs.Edition.{editionNumbered, maxVariables, maxNameBytes, maxWidth}
 use Rattle.refusal.specs.declared.Subject.the-variants.{Constraint}
 use Rattle.refusal.specs.Numbers.{wrongVersion, wrongExpectation, overLimit, nameTaken}
 use Rattle.refusal.specs.Lists.{isThere}
@@ -46,9 +46,9 @@ newName e xs name k =
     let free = cond (not (isReserved e name) && not (isThere (variableNamed name xs))) (Fresh (length name) k) (Faulty nameTaken) in
     cond (leb (length name) maxNameBytes && ltb (length xs) maxVariables) free (Faulty overLimit)
 
--- a fresh declaration has room in the tables, and its name lies in the token
+-- a fresh declaration has room in the table, its name lies in the token, and both name and width are within the limits
 abbrev pub FreshFits : ℕ → ℕ → ℕ → Declaration → Type 0
-FreshFits n start end (Fresh len k) = (n < maxVariables) × (start + len ≤ end)
+FreshFits n start end (Fresh len k) = (n < maxVariables) × (start + len ≤ end) × (len ≤ maxNameBytes) × (k ≤ maxWidth)
 FreshFits n start end (Faulty number) = Unit {0}
 
 -- after a `d` line: how many variables there are, or a refusal
@@ -61,9 +61,9 @@ abbrev pub DeclaredInTables : Declared → Type 0
 DeclaredInTables (Done n) = n ≤ maxVariables
 DeclaredInTables (Fault r) = Unit {0}
 
--- the file, unless there are more tokens
-abbrev pub unlessMore : List Token → File → Result File
-unlessMore ts f = noMoreTokens Constraint ts >> accepted f
+-- a result, unless there are more tokens
+abbrev pub unlessMore : List Token → Result File → Result File
+unlessMore ts r = noMoreTokens Constraint ts >> r
 
 -- what the token of a `v` or `e` line says
 abbrev pub editionToken : Option Edition → HeaderToken
@@ -85,8 +85,8 @@ isFirst ExpectationLine f = not (isThere (f .expectation))
 
 -- the line of the token t, with the tokens ts behind it
 abbrev pub tokenResult : Token → List Token → File → HeaderToken → Result File
-tokenResult t ts f (OfEdition e) = unlessMore ts (withVersion f e)
-tokenResult t ts f (OfNumber n) = unlessMore ts (withExpectation f n)
+tokenResult t ts f (OfEdition e) = unlessMore ts (accepted (withVersion f e))
+tokenResult t ts f (OfNumber n) = unlessMore ts (accepted (withExpectation f n))
 tokenResult t ts f (Wrong number) = refused (inConstraint t number)
 
 -- reading the line

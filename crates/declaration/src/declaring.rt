@@ -12,11 +12,10 @@ use text::scan::is_name;
 use text::scan::scan;
 ghost use mathlib.Core.Path.{_≡_};
 ghost use mathlib.Core.Bool.{true};
-ghost use mathlib.Core.List.{List};
-ghost use Prim.Native.Nat.{ℕ, _≤_};
+ghost use Prim.Native.Nat.{_≤_};
 ghost use lib.ListN.{length, drop};
 ghost use Rattle.edition.specs.declared.Edition.{Edition as TheEdition};
-ghost use Rattle.edition.specs.Edition.{maxVariables};
+ghost use Rattle.edition.specs.Edition.{maxVariables, maxWidth};
 ghost use Rattle.refusal.specs.Lists.{every};
 ghost use Rattle.text.specs.declared.Class.the-variants.{Solid};
 ghost use Rattle.text.specs.Scan.{isOf, tokenAt};
@@ -25,17 +24,16 @@ ghost use Rattle.store.specs.Tables.{variablesIn};
 ghost use Rattle.declaration.specs.Internal.{declarationResult, newName, FreshFits};
 
 // A name from `at` to the end of the text that is new: not reserved, not declared, and there is room for it.
-fn new_name<'a>(
+fn new_name(
     file: &[u8],
-    starts: &'a [usize; Edition::VARIABLES],
-    lens: &'a [usize; Edition::VARIABLES],
+    variables: &[u64; Edition::VARIABLES],
     n: usize,
     text: &[u8],
     at: usize,
     k: u64,
 ) -> Declaration
-    requires { ⌜ (at ≤ length (now text)) × (n ≤ maxVariables) ⌝ }
-    ensures { λ r. ⌜ ((e : TheEdition) (widths : List ℕ) → r ≡ newName e (variablesIn (now (file .entry)) (now (starts .entry)) (now (lens .entry)) widths n) (drop at (now (text .entry))) k) × FreshFits n at (length (now (text .entry))) r ⌝ }
+    requires { ⌜ (at ≤ length (now text)) × (n ≤ maxVariables) × (k ≤ maxWidth) ⌝ }
+    ensures { λ r. ⌜ ((e : TheEdition) → r ≡ newName e (variablesIn (now (file .entry)) (now (variables .entry)) n) (drop at (now (text .entry))) k) × FreshFits n at (length (now (text .entry))) r ⌝ }
 {
     let len = text.len() - at;
     if Edition::NAME_BYTES < len {
@@ -47,23 +45,22 @@ fn new_name<'a>(
     if is_reserved(text, at) {
         return Declaration::Faulty(Refusal::NAME_TAKEN);
     }
-    match lookup(file, starts, lens, n, text, at) {
+    match lookup(file, variables, n, text, at) {
         Found::At(_) => Declaration::Faulty(Refusal::NAME_TAKEN),
         Found::Nowhere => Declaration::Fresh(len, k),
     }
 }
 
 // What the declaration from `at` to the end of the text says.
-pub(crate) fn declare<'a>(
+pub(crate) fn declare(
     file: &[u8],
-    starts: &'a [usize; Edition::VARIABLES],
-    lens: &'a [usize; Edition::VARIABLES],
+    variables: &[u64; Edition::VARIABLES],
     n: usize,
     text: &[u8],
     at: usize,
 ) -> Declaration
     requires { ⌜ (at ≤ length (now text)) × (n ≤ maxVariables) × (every (isOf Solid) (drop at (now text)) ≡ true) ⌝ }
-    ensures { λ r. ⌜ ((e : TheEdition) (widths : List ℕ) → declarationResult (tokenAt (now (text .entry)) at) r ≡ declareBy e (variablesIn (now (file .entry)) (now (starts .entry)) (now (lens .entry)) widths n) (tokenAt (now (text .entry)) at)) × FreshFits n at (length (now (text .entry))) r ⌝ }
+    ensures { λ r. ⌜ ((e : TheEdition) → declarationResult (tokenAt (now (text .entry)) at) r ≡ declareBy e (variablesIn (now (file .entry)) (now (variables .entry)) n) (tokenAt (now (text .entry)) at)) × FreshFits n at (length (now (text .entry))) r ⌝ }
 {
     let colon = scan(text, at, Class::Until(b':'));
     let found = type_at(text, colon);
@@ -72,7 +69,7 @@ pub(crate) fn declare<'a>(
         match kind {
             TypeRead::NoType => Declaration::Faulty(Refusal::MISSPELT),
             TypeRead::NoWidth => Declaration::Faulty(Refusal::NOT_A_WIDTH),
-            TypeRead::Width(k) => new_name(file, starts, lens, n, &text[..colon], at, k),
+            TypeRead::Width(k) => new_name(file, variables, n, &text[..colon], at, k),
         }
     } else {
         Declaration::Faulty(Refusal::MISSPELT)

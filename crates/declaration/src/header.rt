@@ -4,9 +4,9 @@ use super::HeaderToken;
 use constraint::refusals::refusal;
 use edition::Edition;
 use refusal::Refusal;
+use store::Added;
 use store::Expectation;
 use store::Progress;
-use store::Step;
 use store::Version;
 use text::Class;
 use text::NextToken;
@@ -26,7 +26,8 @@ ghost use Rattle.text.specs.Lines.{tokensFrom};
 ghost use Rattle.constraint.specs.Read.{versionOf, expectationOf};
 ghost use Rattle.declaration.specs.Internal.{editionBy, unlessMore, headerToken, isFirst, readHeaderLine};
 ghost use Rattle.store.specs.Tables.{Store};
-ghost use Rattle.store.specs.Progress.{storedFile, versionRead, expectationRead, withVersionRead, withExpectationRead, stepResult, InTables, StepInTables};
+ghost use Rattle.store.specs.declared.Progress.{Progress as TheProgress};
+ghost use Rattle.store.specs.Progress.{storedFile, versionRead, expectationRead, addedResult, AddsHeader};
 ghost use Rattle.text.specs.Scan.{lineAt};
 
 // The digits of a version's number, at most.
@@ -118,62 +119,38 @@ fn is_first(p: Progress, line: HeaderLine) -> bool
     }
 }
 
-fn with_version(p: Progress, e: Edition) -> Progress
-    ensures { λ r. ⌜ r ≡ withVersionRead p e ⌝ }
-{
-    let expectation = p.expectation;
-    Progress {
-        version: Version::HasVersion(e),
-        expectation,
-        variables: p.variables,
-        lines: p.lines,
-    }
-}
-
-fn with_expectation(p: Progress, n: u64) -> Progress
-    ensures { λ r. ⌜ r ≡ withExpectationRead p n ⌝ }
-{
-    let version = p.version;
-    Progress {
-        version,
-        expectation: Expectation::HasExpectation(n),
-        variables: p.variables,
-        lines: p.lines,
-    }
-}
-
-// The step `next`, unless another token stands from `at` on.
-fn unless_more(line: &[u8], at: usize, next: Progress) -> Step
+// What the line adds, unless another token stands from `at` on.
+fn unless_more(line: &[u8], at: usize, added: Added) -> Added
     requires { ⌜ at ≤ length (now line) ⌝ }
-    ensures { λ r. ⌜ ((bytes : List ℕ) (t : Store) → stepResult bytes t r ≡ unlessMore (tokensFrom true at (drop at (now (line .entry)))) (storedFile bytes t next)) × (InTables next → StepInTables r) ⌝ }
+    ensures { λ r. ⌜ ((bytes : List ℕ) (t : Store) (p : TheProgress) → addedResult bytes t p r ≡ unlessMore (tokensFrom true at (drop at (now (line .entry)))) (addedResult bytes t p added)) × (AddsHeader added → AddsHeader r) ⌝ }
 {
     match next_token(line, at) {
-        NextToken::OneMore(t) => Step::Stop(refusal(Refusal::TOKEN_COUNT, t.start)),
-        NextToken::NoMore => Step::Next(next),
+        NextToken::OneMore(t) => Added::Fault(refusal(Refusal::TOKEN_COUNT, t.start)),
+        NextToken::NoMore => added,
     }
 }
 
 // The `v` or `e` line from `at` to the end.
-pub fn header_line(text: &[u8], at: usize, p: Progress, line: HeaderLine) -> Step
+pub fn header_line(text: &[u8], at: usize, p: Progress, line: HeaderLine) -> Added
     requires { ⌜ at < length (now text) ⌝ }
-    ensures { λ r. ⌜ ((bytes : List ℕ) (t : Store) (next : ℕ) → stepResult bytes t r ≡ readHeaderLine line (storedFile bytes t p) (lineAt (now (text .entry)) at next)) × (InTables p → StepInTables r) ⌝ }
+    ensures { λ r. ⌜ ((bytes : List ℕ) (t : Store) (next : ℕ) → addedResult bytes t p r ≡ readHeaderLine line (storedFile bytes t p) (lineAt (now (text .entry)) at next)) × AddsHeader r ⌝ }
 {
     if p.lines != 0 {
-        return Step::Stop(refusal(Refusal::MISPLACED_LINE, at));
+        return Added::Fault(refusal(Refusal::MISPLACED_LINE, at));
     }
     if !is_first(p, line) {
-        return Step::Stop(refusal(Refusal::MISPLACED_LINE, at));
+        return Added::Fault(refusal(Refusal::MISPLACED_LINE, at));
     }
     let next = at + 1;
     match next_token(text, next) {
-        NextToken::NoMore => Step::Stop(refusal(Refusal::TOKEN_COUNT, text.len())),
+        NextToken::NoMore => Added::Fault(refusal(Refusal::TOKEN_COUNT, text.len())),
         NextToken::OneMore(t) => {
             let start = t.start;
             let stop = t.stop;
             match token_at(&text[..stop], start, line) {
-                HeaderToken::Wrong(number) => Step::Stop(refusal(number, start)),
-                HeaderToken::OfEdition(e) => unless_more(text, stop, with_version(p, e)),
-                HeaderToken::OfNumber(n) => unless_more(text, stop, with_expectation(p, n)),
+                HeaderToken::Wrong(number) => Added::Fault(refusal(number, start)),
+                HeaderToken::OfEdition(e) => unless_more(text, stop, Added::VersionPart(e)),
+                HeaderToken::OfNumber(n) => unless_more(text, stop, Added::ExpectationPart(n)),
             }
         }
     }

@@ -1,5 +1,5 @@
 -- Laws that belong to no one function.
-pub mod UnnamedLaws
+pub mod HeadLaws
 pub mod UnfitLaws
 pub mod RuleLaws
 pub mod FitLaws

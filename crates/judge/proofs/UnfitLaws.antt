@@ -1,6 +1,6 @@
 -- The first value that does not fit its variable, found from one variable to the next. Assumes nothing.
 use Prim.Native.Nat.{ℕ, zero, suc, _+_, _≤_, _<_}
-use mathlib.Core.Path.{_≡_, refl, sym, ap, ap₂, _∙_}
+use mathlib.Core.Path.{_≡_, refl, sym, ap, _∙_}
 use mathlib.Core.Bool.{Bool, true, false, not}
 use mathlib.Core.List.{List, [], _∷_, zipWith}
 use mathlib.Core.Option.{Option, none, some}
@@ -13,9 +13,8 @@ use Rattle.arithmetic.specs.Rules.{fits}
 use Rattle.constraint.specs.File.{Variable, widthAt}
 use Rattle.store.proofs.LookupLaws.{variables-length}
 use Rattle.judge.specs.InUse.{valueWords, firstUnfit}
-use Rattle.store.specs.Tables.{unnamed}
+use Rattle.store.specs.Tables.{variablesIn}
 use Rattle.refusal.proofs.ListLaws.{first-here, first-later, first-nowhere}
-use Rattle.store.proofs.WidthLaws.{width-at}
 
 -- ---- values as they are held
 held-length : (xs : List Variable) (row : List ℕ) → length row ≡ length xs → length (valueWords xs row) ≡ length xs
@@ -36,40 +35,40 @@ abbrev pub unfit : Word → Bool
 unfit w = not (fits w)
 
 -- the first value that does not fit, of those from i on
-unfoldable pub unfitFrom : List ℕ → ℕ → List ℕ → ℕ → Option ℕ
-unfitFrom widths n values i = firstFrom unfit i (drop i (valueWords (unnamed widths n) (take n values)))
+unfoldable pub unfitFrom : List ℕ → List ℕ → ℕ → List ℕ → ℕ → Option ℕ
+unfitFrom file table n values i = firstFrom unfit i (drop i (valueWords (variablesIn file table n) (take n values)))
 
--- variable i and its value
-abbrev entry : List ℕ → List ℕ → ℕ → Word
-entry widths values i = record { width = getD widths i 0; value = getD values i 0 }
-
-pub unfit-start : (widths : List ℕ) (n : ℕ) (values : List ℕ) → unfitFrom widths n values 0 ≡ firstUnfit (unnamed widths n) (take n values)
+pub unfit-start : (file table : List ℕ) (n : ℕ) (values : List ℕ) → unfitFrom file table n values 0 ≡ firstUnfit (variablesIn file table n) (take n values)
 unfolding unfitFrom firstUnfit
-unfit-start widths n values = refl
+unfit-start file table n values = refl
 
-module _ (widths : List ℕ) (n : ℕ) (values : List ℕ) (room : n ≤ length values) where
-  many : length (unnamed widths n) ≡ n
-  many = variables-length [] [] [] widths n
+module _ (file table : List ℕ) (n : ℕ) (values : List ℕ) (room : n ≤ length values) where
+  many : length (variablesIn file table n) ≡ n
+  many = variables-length file table n
 
-  matched : length (take n values) ≡ length (unnamed widths n)
+  matched : length (take n values) ≡ length (variablesIn file table n)
   matched = length-take-le n values room ∙ sym many
 
-  long : length (valueWords (unnamed widths n) (take n values)) ≡ n
-  long = held-length (unnamed widths n) (take n values) matched ∙ many
+  long : length (valueWords (variablesIn file table n) (take n values)) ≡ n
+  long = held-length (variablesIn file table n) (take n values) matched ∙ many
 
   module _ (i : ℕ) where
-    pub unfit-nowhere : n ≤ i → unfitFrom widths n values i ≡ none
+    pub unfit-nowhere : n ≤ i → unfitFrom file table n values i ≡ none
     unfolding unfitFrom
-    unfit-nowhere h = first-nowhere unfit i (valueWords (unnamed widths n) (take n values)) i (omega (arith, long))
+    unfit-nowhere h = first-nowhere unfit i (valueWords (variablesIn file table n) (take n values)) i (omega (arith, long))
 
     module _ (h : i < n) where
-      held-entry : (d : Word) → getD (valueWords (unnamed widths n) (take n values)) i d ≡ entry widths values i
-      held-entry d = held-at (unnamed widths n) (take n values) i d matched (omega (arith, many)) ∙ ap₂ (λ (k v : ℕ). record { width = k; value = v }) (width-at widths n i h) (getD-take n values i 0 h)
+      -- variable i and its value
+      abbrev entry : Word
+      entry = record { width = widthAt (variablesIn file table n) i; value = getD values i 0 }
 
-      pub unfit-here : fits (entry widths values i) ≡ false → unfitFrom widths n values i ≡ some i
-      unfolding unfitFrom
-      unfit-here e = first-here unfit i (valueWords (unnamed widths n) (take n values)) i (entry widths values i) (omega (arith, long)) (rw (held-entry (entry widths values i), e))
+      held-entry : (d : Word) → getD (valueWords (variablesIn file table n) (take n values)) i d ≡ entry
+      held-entry d = held-at (variablesIn file table n) (take n values) i d matched (omega (arith, many)) ∙ rw (getD-take n values i 0 h)
 
-      pub unfit-later : fits (entry widths values i) ≡ true → unfitFrom widths n values i ≡ unfitFrom widths n values (i + 1)
+      pub unfit-here : fits entry ≡ false → unfitFrom file table n values i ≡ some i
       unfolding unfitFrom
-      unfit-later e = first-later unfit i (valueWords (unnamed widths n) (take n values)) i (entry widths values i) (omega (arith, long)) (rw (held-entry (entry widths values i), e))
+      unfit-here e = first-here unfit i (valueWords (variablesIn file table n) (take n values)) i entry (omega (arith, long)) (rw (held-entry entry, e))
+
+      pub unfit-later : fits entry ≡ true → unfitFrom file table n values i ≡ unfitFrom file table n values (i + 1)
+      unfolding unfitFrom
+      unfit-later e = first-later unfit i (valueWords (variablesIn file table n) (take n values)) i entry (omega (arith, long)) (rw (held-entry entry, e))

@@ -18,7 +18,8 @@ use Rattle.constraint.specs.File.{Variable, operandWord, target}
 use Rattle.store.specs.Tables.{lineIn, linesIn}
 use Rattle.constraint.specs.Sound.{Each}
 use Rattle.constraint.proofs.EachLaws.{each-at}
-use Rattle.store.proofs.TableLaws.{getD-tabulate, tabulate-suc, lines-length}
+use Rattle.store.proofs.TableLaws.{getD-tabulate}
+use Rattle.store.proofs.LineTableLaws.{lines-length, lines-more}
 use Rattle.judge.specs.Judge.{verdictViolated, verdictHolds, verdictDisregarded, resultOf, judge, verdictsOf}
 use Rattle.judge.specs.Fitting.{Fitting}
 
@@ -64,21 +65,22 @@ pub verdicts-length : (xs : List Variable) (row : List ℕ) (ls : List Line) →
 unfolding verdictsOf
 verdicts-length xs row ls = length-map ls (λ l. judge xs row l .verdict)
 
--- what holds of each line in a table holds of line i
-pub each-line : (P : Line → Type 0) (table : List ℕ) (n i : ℕ) → Each P (linesIn table n) → i < n → P (lineIn table i)
+-- what holds of each line in the tables holds of line i
+pub each-line : (P : Line → Type 0) (heads bodies : List ℕ) (n i : ℕ) → Each P (linesIn heads bodies n) → i < n → P (lineIn heads bodies i)
 unfolding linesIn
-each-line P table n i h p = rw (getD-tabulate (lineIn table) n i (lineIn table 0) p) at (each-at P (linesIn table n) i (lineIn table 0) h (omega (arith, lines-length table n)))
+each-line P heads bodies n i h p =
+    rw (getD-tabulate (lineIn heads bodies) n i (lineIn heads bodies 0) p) at (each-at P (linesIn heads bodies n) i (lineIn heads bodies 0) h (omega (arith, lines-length heads bodies n)))
 
-module _ (xs : List Variable) (row table : List ℕ) (i : ℕ) where
-  verdicts-more : verdictsOf xs row (linesIn table (i + 1)) ≡ verdictsOf xs row (linesIn table i) ++ (judge xs row (lineIn table i) .verdict ∷ [])
-  unfolding verdictsOf linesIn
-  verdicts-more = rw (tabulate-suc (lineIn table) i) (map-append (λ l. judge xs row l .verdict) (linesIn table i) (lineIn table i ∷ []))
+module _ (xs : List Variable) (row heads bodies : List ℕ) (i : ℕ) where
+  verdicts-more : verdictsOf xs row (linesIn heads bodies (i + 1)) ≡ verdictsOf xs row (linesIn heads bodies i) ++ (judge xs row (lineIn heads bodies i) .verdict ∷ [])
+  unfolding verdictsOf
+  verdicts-more = rw (lines-more heads bodies i) (map-append (λ l. judge xs row l .verdict) (linesIn heads bodies i) (lineIn heads bodies i ∷ []))
 
   -- the verdict on line i, put behind those before it
-  pub verdict-put : (verdicts : List ℕ) → i < length verdicts → set (verdictsOf xs row (linesIn table i) ++ drop i verdicts) i (judge xs row (lineIn table i) .verdict) ≡ verdictsOf xs row (linesIn table (i + 1)) ++ drop (i + 1) verdicts
+  pub verdict-put : (verdicts : List ℕ) → i < length verdicts → set (verdictsOf xs row (linesIn heads bodies i) ++ drop i verdicts) i (judge xs row (lineIn heads bodies i) .verdict) ≡ verdictsOf xs row (linesIn heads bodies (i + 1)) ++ drop (i + 1) verdicts
   verdict-put verdicts h =
-      let vs = verdictsOf xs row (linesIn table i) in
-      let v = judge xs row (lineIn table i) .verdict in
-      let l : length vs ≡ i = verdicts-length xs row (linesIn table i) ∙ lines-length table i in
+      let vs = verdictsOf xs row (linesIn heads bodies i) in
+      let v = judge xs row (lineIn heads bodies i) .verdict in
+      let l : length vs ≡ i = verdicts-length xs row (linesIn heads bodies i) ∙ lines-length heads bodies i in
       rw (drop-cons verdicts i 0 h, verdicts-more, add-one i)
       (set-at vs (getD verdicts i 0) (drop (suc i) verdicts) v i l ∙ sym (append-snoc vs v (drop (suc i) verdicts)))

@@ -1,29 +1,30 @@
-// The verdict on a stored line, and on all of them.
+// The verdict on a stored line, and on all of them. The widths stand in the lines' heads: no table of variables is needed.
 use super::Judged;
 use arithmetic::Word;
 use arithmetic::rules::I1;
-use constraint::Operand;
-use edition::Edition;
 use evaluation::Evaluated;
 use evaluation::evaluate;
-use store::lines::TABLE_WORDS;
-use store::lines::first_of;
+use store::lines::ABSENT;
+use store::lines::FIRST;
+use store::lines::OUTPUT;
+use store::lines::SECOND;
+use store::lines::TABLE_BODIES;
+use store::lines::TABLE_HEADS;
+use store::lines::THIRD;
+use store::lines::body_of;
+use store::lines::head_of;
+use store::lines::head_width;
+use store::lines::is_variable;
 use store::lines::operator_of;
-use store::lines::output_of;
-use store::lines::second_of;
-use store::lines::third_of;
-use store::widths::width_of;
 ghost use mathlib.Core.Path.{_≡_};
-ghost use mathlib.Core.List.{_++_};
-ghost use Prim.Native.Nat.{_≤_, _<_};
+ghost use mathlib.Core.List.{List, _++_};
+ghost use Prim.Native.Nat.{ℕ, _≤_, _<_};
 ghost use lib.ListN.{length, getD, drop};
-ghost use Rattle.edition.specs.Edition.{maxVariables, maxLines};
-ghost use Rattle.constraint.specs.File.{operandWord, target as targetOf};
-ghost use Rattle.store.specs.Tables.{tableWords, lineIn, linesIn};
-ghost use Rattle.constraint.specs.Sound.{Each};
+ghost use Rattle.edition.specs.Edition.{maxLines};
+ghost use Rattle.constraint.specs.File.{Variable, operandWord, target as targetOf};
+ghost use Rattle.store.specs.Tables.{lineBodies, tableHeads, tableBodies, operandIn, lineIn, linesIn, HeadsFit, AllHeadsFit};
 ghost use Rattle.judge.specs.Judge.{judge, verdictsOf};
-ghost use Rattle.store.specs.Tables.{unnamed};
-ghost use Rattle.judge.specs.Fitting.{Fitting};
+ghost use Rattle.judge.specs.Fitting.{Judgeable};
 
 // The value of variable i, or 0.
 fn value_of(row: &[u64], i: usize) -> u64
@@ -32,52 +33,66 @@ fn value_of(row: &[u64], i: usize) -> u64
     if i < row.len() { row[i] } else { 0 }
 }
 
-// An operand, of n variables with these widths, under a row of values.
-fn operand_word(widths: &[u64; Edition::VARIABLES], n: usize, row: &[u64], o: Operand) -> Word
-    requires { ⌜ n ≤ maxVariables ⌝ }
-    ensures { λ r. ⌜ r ≡ operandWord (unnamed (now (widths .entry)) n) (now (row .entry)) o ⌝ }
+// The operand at a slot of line k, under a row of values.
+fn operand_word<'a>(
+    row: &[u64],
+    heads: &'a [u8; TABLE_HEADS],
+    bodies: &'a [u64; TABLE_BODIES],
+    k: usize,
+    slot: usize,
+) -> Word
+    requires { ⌜ (length (now heads) ≡ tableHeads) × (length (now bodies) ≡ tableBodies) × (k < maxLines) × (slot < lineBodies) ⌝ }
+    ensures { λ r. ⌜ ((xs : List Variable) → HeadsFit xs (now (heads .entry)) (now (bodies .entry)) k → r ≡ operandWord xs (now (row .entry)) (operandIn (now (heads .entry)) (now (bodies .entry)) k slot)) ⌝ }
 {
-    match o {
-        Operand::Absent => Word { width: 0, value: 0 },
-        Operand::Var(i) => Word {
-            width: width_of(widths, n, i),
-            value: value_of(row, i),
-        },
-        Operand::Const(w) => w,
+    let head = head_of(heads, k, slot);
+    let body = body_of(bodies, k, slot);
+    let width = head_width(head);
+    if is_variable(head) {
+        return Word {
+            width,
+            value: value_of(row, body as usize),
+        };
     }
+    if head == ABSENT {
+        return Word { width, value: 0 };
+    }
+    Word { width, value: body }
 }
 
-// What a line's operator must give.
-fn target(widths: &[u64; Edition::VARIABLES], n: usize, row: &[u64], o: Operand) -> Word
-    requires { ⌜ n ≤ maxVariables ⌝ }
-    ensures { λ r. ⌜ r ≡ targetOf (unnamed (now (widths .entry)) n) (now (row .entry)) o ⌝ }
+// What the operator of line k must give.
+fn target<'a>(
+    row: &[u64],
+    heads: &'a [u8; TABLE_HEADS],
+    bodies: &'a [u64; TABLE_BODIES],
+    k: usize,
+) -> Word
+    requires { ⌜ (length (now heads) ≡ tableHeads) × (length (now bodies) ≡ tableBodies) × (k < maxLines) ⌝ }
+    ensures { λ r. ⌜ ((xs : List Variable) → HeadsFit xs (now (heads .entry)) (now (bodies .entry)) k → r ≡ targetOf xs (now (row .entry)) (operandIn (now (heads .entry)) (now (bodies .entry)) k 0)) ⌝ }
 {
-    match o {
-        Operand::Absent => Word {
+    if head_of(heads, k, OUTPUT) == ABSENT {
+        return Word {
             width: I1,
             value: 1,
-        },
-        Operand::Var(_) => operand_word(widths, n, row, o),
-        Operand::Const(w) => w,
+        };
     }
+    operand_word(row, heads, bodies, k, OUTPUT)
 }
 
-// The verdict on the line at place k of the table, which keeps its rules, and its result.
+// The verdict on line k of the table, which keeps its rules, and its result.
 pub fn judge_line<'a>(
-    widths: &'a [u64; Edition::VARIABLES],
-    n: usize,
     row: &[u64],
-    lines: &'a [u64; TABLE_WORDS],
+    heads: &'a [u8; TABLE_HEADS],
+    bodies: &'a [u64; TABLE_BODIES],
     k: usize,
 ) -> Judged
-    requires { ⌜ (n ≤ maxVariables) × (length (now lines) ≡ tableWords) × (k < maxLines) × Fitting (unnamed (now widths) n) (now row) (lineIn (now lines) k) ⌝ }
-    ensures { λ r. ⌜ r ≡ judge (unnamed (now (widths .entry)) n) (now (row .entry)) (lineIn (now (lines .entry)) k) ⌝ }
+    requires { ⌜ (length (now heads) ≡ tableHeads) × (length (now bodies) ≡ tableBodies) × (k < maxLines) × Judgeable (now row) (now heads) (now bodies) k ⌝ }
+    ensures { λ r. ⌜ ((xs : List Variable) → HeadsFit xs (now (heads .entry)) (now (bodies .entry)) k → r ≡ judge xs (now (row .entry)) (lineIn (now (heads .entry)) (now (bodies .entry)) k)) ⌝ }
 {
-    let op = operator_of(lines, k);
-    let a = operand_word(widths, n, row, first_of(lines, k));
-    let b = operand_word(widths, n, row, second_of(lines, k));
-    let c = operand_word(widths, n, row, third_of(lines, k));
-    let goal = target(widths, n, row, output_of(lines, k));
+    let op = operator_of(heads, k);
+    let a = operand_word(row, heads, bodies, k, FIRST);
+    let b = operand_word(row, heads, bodies, k, SECOND);
+    let c = operand_word(row, heads, bodies, k, THIRD);
+    let goal = target(row, heads, bodies, k);
     match evaluate(op, goal.width, a, b, c) {
         Evaluated::Value(result) => {
             if result == goal.value {
@@ -101,19 +116,18 @@ pub fn judge_line<'a>(
 
 // Puts the verdicts on the first m lines of the table at the front of `verdicts`.
 pub fn judge_all<'a>(
-    widths: &'a [u64; Edition::VARIABLES],
-    n: usize,
-    lines: &'a [u64; TABLE_WORDS],
+    heads: &'a [u8; TABLE_HEADS],
+    bodies: &'a [u64; TABLE_BODIES],
     m: usize,
     row: &[u64],
     verdicts: &mut [u8],
 )
-    requires { ⌜ (n ≤ maxVariables) × (m ≤ maxLines) × (length (now lines) ≡ tableWords) × (m ≤ length (now verdicts)) × Each (Fitting (unnamed (now widths) n) (now row)) (linesIn (now lines) m) ⌝ }
-    ensures { λ _. ⌜ now (verdicts .exit) ≡ verdictsOf (unnamed (now (widths .entry)) n) (now (row .entry)) (linesIn (now (lines .entry)) m) ++ drop m (now (verdicts .entry)) ⌝ }
+    requires { ⌜ (m ≤ maxLines) × (length (now heads) ≡ tableHeads) × (length (now bodies) ≡ tableBodies) × (m ≤ length (now verdicts)) × ((k : ℕ) → k < m → Judgeable (now row) (now heads) (now bodies) k) ⌝ }
+    ensures { λ _. ⌜ ((xs : List Variable) → AllHeadsFit xs (now (heads .entry)) (now (bodies .entry)) m → now (verdicts .exit) ≡ verdictsOf xs (now (row .entry)) (linesIn (now (heads .entry)) (now (bodies .entry)) m) ++ drop m (now (verdicts .entry))) ⌝ }
 {
     let mut i = 0;
     while i < m {
-        let judged = judge_line(widths, n, row, lines, i);
+        let judged = judge_line(row, heads, bodies, i);
         verdicts[i] = judged.verdict;
         i += 1;
     }

@@ -1,6 +1,6 @@
 -- A change on a file that is read: refused by its tests, or stored. Assumes nothing.
 use Prim.Native.Nat.{ℕ, _<_, _^_}
-use mathlib.Core.Path.{_≡_, sym, _∙_}
+use mathlib.Core.Path.{_≡_, refl, sym, _∙_}
 use mathlib.Core.List.{List, _++_}
 use native.Mathlib.Decide.{ℕ-discrete}
 use native.Mathlib.Omega.{arith}
@@ -9,7 +9,7 @@ use lib.Seq.{length-take-le, getD-set-same, getD-set-other, getD-take, take-set-
 use Rattle.edition.specs.Word.{wordBits}
 use Rattle.refusal.specs.declared.Refusal.{Refusal}
 use Rattle.refusal.specs.Lists.{howMany}
-use Rattle.refusal.specs.Result.{accepted, refused}
+use Rattle.refusal.specs.Result.{Result, accepted, refused}
 use Rattle.arithmetic.specs.Bits.{differingBits}
 use Rattle.constraint.specs.File.{Variable, File, widthAt}
 use Rattle.judge.specs.declared.Overall.{Overall}
@@ -18,7 +18,8 @@ use Rattle.judge.specs.InUse.{rowInUse}
 use Rattle.judge.specs.Claims.{RowFits}
 use Rattle.judge.proofs.FitLaws.{row-fits}
 use Rattle.moves.specs.declared.ChangeReply.the-variants.{Changed, Refused}
-use Rattle.moves.specs.Change.{names, renewed, differing, changingFor, ChangeOutcome, unchanged, accept, changeFor}
+use Rattle.moves.specs.Change.{names, renewed, differing, numbersFit, changingFor, ChangeOutcome, unchanged, accept, changed, changeFor}
+use Rattle.moves.specs.Gate.{fileOf}
 use Rattle.moves.proofs.GateLaws.{Sized, Passed}
 use Rattle.moves.proofs.RenewLaws.{renewed-front}
 
@@ -29,6 +30,17 @@ module _ (f : File) (values verdicts : List ℕ) (i v : ℕ) where
 
   pub change-accepted : accepted tt ≡ changingFor f values verdicts i v → accept f values verdicts i v ≡ changeFor f values verdicts i v
   change-accepted e = rw (← e)
+
+-- ---- neither version nor expectation matters
+module _ (f : File) (values verdicts : List ℕ) (i v : ℕ) where
+  changed-bare : (r : Result (Unit {0})) → changed (fileOf (f .variables) (f .lines)) values verdicts i v r ≡ changed f values verdicts i v r
+  unfolding accept renewed
+  changed-bare (accepted tt) = refl
+  changed-bare (refused r) = refl
+
+  pub change-bare : changeFor (fileOf (f .variables) (f .lines)) values verdicts i v ≡ changeFor f values verdicts i v
+  unfolding changingFor numbersFit
+  change-bare = changed-bare (changingFor f values verdicts i v)
 
 -- ---- the row after a change fits
 pub fits-set : (xs : List Variable) (row : List ℕ) (i v : ℕ) → RowFits xs row → i < length row → v < 2 ^ widthAt xs i → RowFits xs (set row i v)

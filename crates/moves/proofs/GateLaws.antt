@@ -2,7 +2,7 @@
 use Prim.Native.Nat.{ℕ, _≤_, _<_, _^_}
 use mathlib.Core.Path.{_≡_, refl, sym, _∙_}
 use mathlib.Core.Bool.{Bool, true, false}
-use mathlib.Core.List.{List, []}
+use mathlib.Core.List.{List}
 use mathlib.Core.Option.{Option, none, some}
 use native.Mathlib.Omega.{arith}
 use lib.Dec.{ltb, leb}
@@ -16,21 +16,22 @@ use Rattle.refusal.specs.Result.{accepted, refused, refusal, ensure, ensureNone
 use Rattle.refusal.proofs.ResultLaws.{never}
 use Rattle.arithmetic.specs.Rules.{fits}
 use Rattle.arithmetic.proofs.RuleLaws.{fits-test}
+use Rattle.constraint.specs.declared.Line.{Line}
 use Rattle.constraint.specs.File.{File, widthAt}
+use Rattle.store.specs.Tables.{variablesIn}
 use Rattle.store.proofs.LookupLaws.{variables-length}
-use Rattle.store.proofs.TableLaws.{lines-length}
 use Rattle.judge.specs.Judge.{verdictDisregarded}
 use Rattle.judge.specs.InUse.{rowInUse, verdictsInUse, firstUnfit}
 use Rattle.moves.specs.Change.{numbersFit, changingFor}
-use Rattle.moves.specs.Gate.{unnamedFile}
+use Rattle.moves.specs.Gate.{fileOf}
 
 -- a file of n variables and m lines
 pub record Sized (f : File) (n m : ℕ) : Type 0 where
   pub variables : length (f .variables) ≡ n
   pub lines : length (f .lines) ≡ m
 
-pub unnamed-sized : (widths : List ℕ) (n : ℕ) (lines : List ℕ) (m : ℕ) → Sized (unnamedFile widths n lines m) n m
-unnamed-sized widths n lines m = record { variables = variables-length [] [] [] widths n; lines = lines-length lines m }
+pub file-sized : (file table : List ℕ) (n : ℕ) (ls : List Line) (m : ℕ) → length ls ≡ m → Sized (fileOf (variablesIn file table n) ls) n m
+file-sized file table n ls m e = record { variables = variables-length file table n; lines = e }
 
 -- ---- test by test: the first that fails decides
 module _ (f : File) (n m : ℕ) (sized : Sized f n m) (values verdicts : List ℕ) (i v : ℕ) where

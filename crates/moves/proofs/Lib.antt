@@ -2,7 +2,6 @@
 pub mod RenewLaws
 pub mod GateLaws
 pub mod ChangeLaws
-pub mod ChangeHeldLaws
 pub mod NamesLaws
 pub mod TouchLaws
 pub mod RunLaws

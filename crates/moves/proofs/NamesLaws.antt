@@ -1,26 +1,39 @@
 -- A line that does not name a variable does not see its value; so the verdicts made anew for it are all verdicts made anew. Assumes nothing.
 use Prim.Native.Nat.{ℕ, suc}
 use mathlib.Core.Path.{_≡_, refl, sym, ap₂}
-use mathlib.Core.Bool.{Bool, true, false, cond, _||_}
+use mathlib.Core.Bool.{Bool, true, false, cond, _&&_, _||_}
 use mathlib.Core.List.{List, [], _∷_, zipWith}
 use mathlib.Core.Option.{Option, none, some}
-use lib.Dec.{eqb, ltb}
+use lib.Dec.{eqb, ltb, leb}
 use lib.ListN.{set}
 use lib.Seq.{getD-set-other}
-use borrow.Author.Tests.{eqb-false}
+use borrow.Author.Tests.{eqb-true, eqb-false}
 use Rattle.refusal.specs.Lists.{firstFrom}
 use Rattle.refusal.proofs.ResultLaws.{never}
 use Rattle.constraint.specs.declared.Operand.{Operand}
 use Rattle.constraint.specs.declared.Operand.the-variants.{Absent, Var, Const}
 use Rattle.constraint.specs.declared.Line.{Line}
 use Rattle.constraint.specs.File.{Variable, File, operandWord, target}
+use Rattle.store.specs.Tables.{variableMark, operandOf, headAt, bodyAt, operandIn, lineIn}
+use Rattle.judge.proofs.HeadLaws.{of-none, of-variable, of-constant}
 use Rattle.judge.specs.Judge.{verdictViolated, verdictHolds, verdictDisregarded, resultOf, judged, judge, verdictsOf, freshVerdicts}
 use Rattle.moves.specs.Change.{isVariable, names, remade, renewed}
 
+-- an operand is a variable by its head and its body
+named-by : (i head body : ℕ) (t z : Bool) → leb variableMark head ≡ t → eqb head 0 ≡ z → (t && eqb i body) ≡ isVariable i (operandOf head body)
+unfolding isVariable
+named-by i head body true z e q = rw (of-variable head body e)
+named-by i head body false true e q = rw (of-none head body (eqb-true head 0 q))
+named-by i head body false false e q = rw (of-constant head body e (eqb-false head 0 q))
+
+pub named-at : (i : ℕ) (heads bodies : List ℕ) (k slot : ℕ) → (leb variableMark (headAt heads k slot) && eqb i (bodyAt bodies k slot)) ≡ isVariable i (operandIn heads bodies k slot)
+unfolding operandIn
+named-at i heads bodies k slot = named-by i (headAt heads k slot) (bodyAt bodies k slot) _ _ refl refl
+
 -- a line names a variable by one of four tests
-pub names-by : (i : ℕ) (l : Line) {a b c d : Bool} → a ≡ isVariable i (l .output) → b ≡ isVariable i (l .operands .first) → c ≡ isVariable i (l .operands .second) → d ≡ isVariable i (l .operands .third) → (a || b || c || d) ≡ names i l
-unfolding names
-names-by i l p q r s = rw (p, q, r, s)
+pub names-by : (i : ℕ) (heads bodies : List ℕ) (k : ℕ) {a b c d : Bool} → a ≡ isVariable i (operandIn heads bodies k 0) → b ≡ isVariable i (operandIn heads bodies k 1) → c ≡ isVariable i (operandIn heads bodies k 2) → d ≡ isVariable i (operandIn heads bodies k 3) → (a || b || c || d) ≡ names i (lineIn heads bodies k)
+unfolding names lineIn
+names-by i heads bodies k p q r s = rw (p, q, r, s)
 
 -- neither of two tests passes
 neither : (x y : Bool) → (x || y) ≡ false → (x ≡ false) × (y ≡ false)

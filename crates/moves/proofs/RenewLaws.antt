@@ -1,22 +1,21 @@
 -- The verdicts made anew for a variable, one line after the other. Assumes nothing.
 use Prim.Native.Nat.{ℕ, suc, _+_, _≤_, _<_}
-use mathlib.Core.Path.{_≡_, refl, sym, ap, ap₂, _∙_}
+use mathlib.Core.Path.{_≡_, refl, sym, ap, _∙_}
 use mathlib.Core.Bool.{Bool, true, false, cond, not}
 use mathlib.Core.List.{List, [], _∷_, _++_, zipWith}
 use native.Mathlib.Numerals.{add-one}
 use native.Mathlib.Omega.{arith}
 use lib.Dec.{eqb}
-use lib.ListN.{length, getD, take, drop, set, length-set}
+use lib.ListN.{length, getD, take, drop, set}
 use lib.Seq.{append-snoc, drop-cons, getD-at, length-take-le, set-at, take-at, take-suc}
 use Rattle.refusal.specs.Lists.{howMany}
 use Rattle.constraint.specs.declared.Line.{Line}
 use Rattle.constraint.specs.File.{Variable, File, withLine}
 use Rattle.store.specs.Tables.{tabulate, lineIn, linesIn}
-use Rattle.store.proofs.TableLaws.{tabulate-suc, lines-length}
-use Rattle.store.specs.Tables.{unnamed}
+use Rattle.store.proofs.LineTableLaws.{lines-length, lines-more}
 use Rattle.moves.specs.declared.Renewal.{Renewal}
 use Rattle.moves.specs.Change.{names, remade, renewed, differing}
-use Rattle.moves.specs.Gate.{unnamedFile, renewalOf}
+use Rattle.moves.specs.Gate.{fileOf, renewalOf, Renewed}
 
 -- ---- two lists, element by element
 module _ {A B C : Type 0} (f : A → B → C) where
@@ -33,12 +32,6 @@ module _ {A B C : Type 0} (f : A → B → C) where
   zip-last [] (b ∷ ys) x y h = let z : ⊥ = omega arith in absurd z
   zip-last (a ∷ xs) [] x y h = let z : ⊥ = omega arith in absurd z
   zip-last (a ∷ xs) (b ∷ ys) x y h = ap (λ (l : List C). f a b ∷ l) (zip-last xs ys x y (omega arith))
-
-pub zip-alike : {A B C : Type 0} (f g : A → B → C) → ((a : A) (b : B) → f a b ≡ g a b) → (xs : List A) (ys : List B) → zipWith f xs ys ≡ zipWith g xs ys
-unfolding zipWith
-zip-alike f g h [] ys = refl
-zip-alike f g h (x ∷ xs) [] = refl
-zip-alike {C} f g h (x ∷ xs) (y ∷ ys) = ap₂ (λ (c : C) (cs : List C). c ∷ cs) (h x y) (zip-alike f g h xs ys)
 
 -- ---- how many pass, of one element more
 more : (t : Bool) (k n b : ℕ) → n ≡ k + b → cond t (suc n) n ≡ cond t (suc k) k + b
@@ -83,30 +76,31 @@ module _ (xs : List Variable) (row : List ℕ) (i : ℕ) (l : Line) (v : ℕ) wh
   renewal-most r e = (rw e (one-most (names i l)), rw (e, ← one-not (eqb v (remade xs row i l v))) (one-most (not (eqb v (remade xs row i l v)))))
 
 -- ---- the lines in their table, one after the other
-named-more : (table : List ℕ) (i k : ℕ) → howMany (names i) (linesIn table (k + 1)) ≡ howMany (names i) (linesIn table k) + cond (names i (lineIn table k)) 1 0
-unfolding linesIn
-named-more table i k = rw (tabulate-suc (lineIn table) k) (many-last (names i) (linesIn table k) (lineIn table k))
+named-more : (heads bodies : List ℕ) (i k : ℕ) → howMany (names i) (linesIn heads bodies (k + 1)) ≡ howMany (names i) (linesIn heads bodies k) + cond (names i (lineIn heads bodies k)) 1 0
+named-more heads bodies i k = rw (lines-more heads bodies k) (many-last (names i) (linesIn heads bodies k) (lineIn heads bodies k))
 
-module _ (widths : List ℕ) (n : ℕ) (table row : List ℕ) (i : ℕ) (before : List ℕ) where
-  -- the verdicts of the first k lines, and that of line k
+module _ (xs : List Variable) (heads bodies row : List ℕ) (i : ℕ) (before : List ℕ) where
+  -- the first k lines, their verdicts, and that of line k
+  abbrev fileTo : ℕ → File
+  fileTo k = fileOf xs (linesIn heads bodies k)
+
   abbrev renewedTo : ℕ → List ℕ
-  renewedTo k = renewed (unnamedFile widths n table k) row i (take k before)
+  renewedTo k = renewed (fileTo k) row i (take k before)
 
   abbrev renewedAt : ℕ → ℕ
-  renewedAt k = remade (unnamed widths n) row i (lineIn table k) (getD before k 0)
+  renewedAt k = remade xs row i (lineIn heads bodies k) (getD before k 0)
 
   -- with line k, which has room
   module _ (k : ℕ) (h : k < length before) where
-    as-many : length (take k before) ≡ length (linesIn table k)
-    as-many = length-take-le k before (omega arith) ∙ sym (lines-length table k)
+    as-many : length (take k before) ≡ length (linesIn heads bodies k)
+    as-many = length-take-le k before (omega arith) ∙ sym (lines-length heads bodies k)
 
     long : length (renewedTo k) ≡ k
-    long = renewed-length (unnamedFile widths n table k) row i (take k before) as-many ∙ lines-length table k
+    long = renewed-length (fileTo k) row i (take k before) as-many ∙ lines-length heads bodies k
 
     renewed-more : renewedTo (k + 1) ≡ renewedTo k ++ (renewedAt k ∷ [])
-    unfolding linesIn
     renewed-more =
-        rw (tabulate-suc (lineIn table) k, add-one k, take-suc before k 0 h) (renewed-last (unnamedFile widths n table k) row i (take k before) as-many (lineIn table k) (getD before k 0))
+        rw (lines-more heads bodies k, add-one k, take-suc before k 0 h) (renewed-last (fileTo k) row i (take k before) as-many (lineIn heads bodies k) (getD before k 0))
 
     altered-more : differing (take (k + 1) before) (renewedTo (k + 1)) ≡ differing (take k before) (renewedTo k) + cond (eqb (getD before k 0) (renewedAt k)) 0 1
     altered-more =
@@ -122,37 +116,27 @@ module _ (widths : List ℕ) (n : ℕ) (table row : List ℕ) (i : ℕ) (before 
         rw (drop-cons before k 0 h, renewed-more, add-one k)
         (set-at (renewedTo k) (getD before k 0) (drop (suc k) before) (renewedAt k) k long ∙ sym (append-snoc (renewedTo k) (renewedAt k) (drop (suc k) before)))
 
--- the first k verdicts are made anew and counted, and those behind them are as they were
-pub record Turn (widths : List ℕ) (n : ℕ) (table row : List ℕ) (i : ℕ) (before verdicts : List ℕ) (named altered k : ℕ) : Type 0 where
-  pub long : length verdicts ≡ length before
-  pub made : verdicts ≡ renewed (unnamedFile widths n table k) row i (take k before) ++ drop k before
-  pub few : named ≤ k
-  pub counted : named ≡ howMany (names i) (linesIn table k)
-  pub fewer : altered ≤ k
-  pub differed : altered ≡ differing (take k before) (renewed (unnamedFile widths n table k) row i (take k before))
+  -- the first k lines and their counts
+  abbrev pub Turn : List ℕ → ℕ → ℕ → ℕ → Type 0
+  Turn verdicts named altered k = Renewed (fileTo k) k row i before verdicts (record { named = named; altered = altered })
 
-module _ (widths : List ℕ) (n : ℕ) (table row : List ℕ) (i : ℕ) (before : List ℕ) where
-  pub turn-start : Turn widths n table row i before before 0 0 0
+  pub turn-start : Turn before 0 0 0
   unfolding linesIn tabulate renewed zipWith howMany differing
-  turn-start = record { long = refl; made = refl; few = omega arith; counted = refl; fewer = omega arith; differed = refl }
+  turn-start = record { made = refl; counted = refl; differed = refl }
 
   -- line k
-  module _ (verdicts : List ℕ) (named altered k : ℕ) (t : Turn widths n table row i before verdicts named altered k) (h : k < length before) where
+  module _ (verdicts : List ℕ) (named altered k : ℕ) (t : Turn verdicts named altered k) (h : k < length before) where
     still : getD verdicts k 0 ≡ getD before k 0
-    still = rw (t .made) (not-yet widths n table row i before k h)
+    still = rw (t .made) (not-yet k h)
 
     pub turn-next : (r : Renewal) (after : List ℕ)
-        → r ≡ renewalOf (unnamed widths n) row i (lineIn table k) (getD verdicts k 0)
-        → after ≡ set verdicts k (remade (unnamed widths n) row i (lineIn table k) (getD verdicts k 0))
-        → Turn widths n table row i before after (named + r .named) (altered + r .altered) (k + 1)
+        → r ≡ renewalOf xs row i (lineIn heads bodies k) (getD verdicts k 0)
+        → after ≡ set verdicts k (remade xs row i (lineIn heads bodies k) (getD verdicts k 0))
+        → Turn after (named + r .named) (altered + r .altered) (k + 1)
     turn-next r after e put =
-        let most = renewal-most (unnamed widths n) row i (lineIn table k) (getD verdicts k 0) r e in
-        let one : r ≡ renewalOf (unnamed widths n) row i (lineIn table k) (getD before k 0) = rw still at e in
+        let one : r ≡ renewalOf xs row i (lineIn heads bodies k) (getD before k 0) = rw still at e in
         record {
-          long = rw put (length-set verdicts k _ ∙ t .long);
-          made = (rw (still, t .made) at put) ∙ renewed-put widths n table row i before k h;
-          few = omega arith;
-          counted = omega (arith, ap (λ x. x .named) one, named-more table i k);
-          fewer = omega arith;
-          differed = omega (arith, ap (λ x. x .altered) one, altered-more widths n table row i before k h);
+          made = (rw (still, t .made) at put) ∙ renewed-put k h;
+          counted = omega (arith, ap (λ x. x .named) one, named-more heads bodies i k, t .counted);
+          differed = omega (arith, ap (λ x. x .altered) one, altered-more k h, t .differed);
         }

@@ -119,5 +119,5 @@ as-fresh-check constraint answer values verdicts f row values₁ verdicts₁ cs 
       values-room = front-within values′ last (drop n values) n long (w .values-are);
       verdicts-room = front-within verdicts′ fresh (drop m verdicts) m judged (w .verdicts-are);
     }) in
-    tables-filled values′ verdicts′ f last values′ fresh verdicts′ n m refl refl refl (front-is values′ last (drop n values) n long (w .values-are)) (front-is verdicts′ fresh (drop m verdicts) m judged (w .verdicts-are))
+    tables-filled values′ verdicts′ f last values′ verdicts′ n m refl refl (front-is values′ last (drop n values) n long (w .values-are)) (front-is verdicts′ fresh (drop m verdicts) m judged (w .verdicts-are))
     ∙ ap (checked values′ verdicts′) (sym check)

@@ -6,7 +6,6 @@ use super::Renewal;
 use arithmetic::Word;
 use arithmetic::bits::differing_bits;
 use arithmetic::rules::fits;
-use constraint::Operand;
 use edition::Edition;
 use judge::Judged;
 use judge::in_use::first_unfit;
@@ -17,30 +16,34 @@ use refusal::Refusal;
 use refusal::Subject;
 use store::Found;
 use store::Step;
-use store::lines::TABLE_WORDS;
-use store::lines::first_of;
-use store::lines::output_of;
-use store::lines::second_of;
-use store::lines::third_of;
+use store::lines::FIRST;
+use store::lines::OUTPUT;
+use store::lines::SECOND;
+use store::lines::TABLE_BODIES;
+use store::lines::TABLE_HEADS;
+use store::lines::THIRD;
+use store::lines::body_of;
+use store::lines::head_of;
+use store::lines::is_variable;
+use store::variables::width_of;
 ghost use mathlib.Core.Path.{_≡_};
 ghost use mathlib.Core.Bool.{cond};
-ghost use mathlib.Core.List.{List, _++_};
+ghost use mathlib.Core.List.{List};
 ghost use Prim.Native.Nat.{ℕ, _≤_, _<_};
 ghost use lib.Dec.{eqb, ltb};
-ghost use lib.ListN.{length, getD, take, drop, set};
+ghost use lib.ListN.{length, getD, set};
 ghost use Rattle.edition.specs.Edition.{maxVariables, maxLines};
-ghost use Rattle.refusal.specs.Lists.{firstFrom, howMany};
+ghost use Rattle.refusal.specs.Lists.{firstFrom};
 ghost use Rattle.refusal.specs.Result.{refusal as refusalOf};
-ghost use Rattle.store.specs.Tables.{tableWords, lineIn, linesIn};
-ghost use Rattle.constraint.specs.Sound.{Each};
-ghost use Rattle.store.specs.Tables.{place};
+ghost use Rattle.constraint.specs.declared.Line.{Line};
+ghost use Rattle.constraint.specs.File.{Variable};
+ghost use Rattle.store.specs.Tables.{place, lineBodies, tableHeads, tableBodies, operandIn, lineIn, linesIn, variablesIn, HeadsFit, AllHeadsFit};
 ghost use Rattle.judge.specs.Judge.{verdictDisregarded};
 ghost use Rattle.judge.specs.Claims.{RowFits};
-ghost use Rattle.store.specs.Tables.{unnamed};
-ghost use Rattle.judge.specs.Fitting.{Fitting};
+ghost use Rattle.judge.specs.Fitting.{Judgeable};
 ghost use Rattle.moves.specs.declared.Gate.the-variants.{Bar};
-ghost use Rattle.moves.specs.Change.{isVariable, names as namesIn, remade, renewed, differing, changingFor, changeFor, changeOutcome};
-ghost use Rattle.moves.specs.Gate.{gateResult, unnamedFile, renewalOf};
+ghost use Rattle.moves.specs.Change.{isVariable, names as namesIn, remade, changingFor, changeFor, changeOutcome};
+ghost use Rattle.moves.specs.Gate.{gateResult, fileOf, renewalOf, Renewed};
 
 fn bar(number: u8, subject: Subject, position: usize) -> Gate
     ensures { λ r. ⌜ r ≡ Bar (refusalOf subject number position) ⌝ }
@@ -52,26 +55,36 @@ fn bar(number: u8, subject: Subject, position: usize) -> Gate
     })
 }
 
-// Whether an operand is variable i.
-fn is_variable(i: usize, o: Operand) -> bool
-    ensures { λ r. ⌜ r ≡ isVariable i o ⌝ }
+// Whether the operand at a slot of line k is variable i.
+fn named_at<'a>(
+    i: usize,
+    heads: &'a [u8; TABLE_HEADS],
+    bodies: &'a [u64; TABLE_BODIES],
+    k: usize,
+    slot: usize,
+) -> bool
+    requires { ⌜ (length (now heads) ≡ tableHeads) × (length (now bodies) ≡ tableBodies) × (k < maxLines) × (slot < lineBodies) ⌝ }
+    ensures { λ r. ⌜ r ≡ isVariable i (operandIn (now (heads .entry)) (now (bodies .entry)) k slot) ⌝ }
 {
-    match o {
-        Operand::Absent => false,
-        Operand::Var(j) => i == j,
-        Operand::Const(_) => false,
-    }
+    let variable = is_variable(head_of(heads, k, slot));
+    let j = body_of(bodies, k, slot) as usize;
+    variable & (i == j)
 }
 
-// Whether the line at place k of the table names variable i, as output or operand.
-fn names(i: usize, lines: &[u64; TABLE_WORDS], k: usize) -> bool
-    requires { ⌜ (length (now lines) ≡ tableWords) × (k < maxLines) ⌝ }
-    ensures { λ r. ⌜ r ≡ namesIn i (lineIn (now (lines .entry)) k) ⌝ }
+// Whether line k of the table names variable i, as output or operand.
+fn names<'a>(
+    i: usize,
+    heads: &'a [u8; TABLE_HEADS],
+    bodies: &'a [u64; TABLE_BODIES],
+    k: usize,
+) -> bool
+    requires { ⌜ (length (now heads) ≡ tableHeads) × (length (now bodies) ≡ tableBodies) × (k < maxLines) ⌝ }
+    ensures { λ r. ⌜ r ≡ namesIn i (lineIn (now (heads .entry)) (now (bodies .entry)) k) ⌝ }
 {
-    let a = is_variable(i, output_of(lines, k));
-    let b = is_variable(i, first_of(lines, k));
-    let c = is_variable(i, second_of(lines, k));
-    let d = is_variable(i, third_of(lines, k));
+    let a = named_at(i, heads, bodies, k, OUTPUT);
+    let b = named_at(i, heads, bodies, k, FIRST);
+    let c = named_at(i, heads, bodies, k, SECOND);
+    let d = named_at(i, heads, bodies, k, THIRD);
     a | b | c | d
 }
 
@@ -98,7 +111,7 @@ fn first_above(verdicts: &[u8]) -> Found
 
 // The tests of a change of variable i, of n, to the value v; there are m lines.
 fn gate(
-    widths: &[u64; Edition::VARIABLES],
+    variables: &[u64; Edition::VARIABLES],
     n: usize,
     m: usize,
     values: &[u64],
@@ -107,7 +120,7 @@ fn gate(
     v: u64,
 ) -> Gate
     requires { ⌜ (n ≤ maxVariables) × (m ≤ maxLines) ⌝ }
-    ensures { λ r. ⌜ ((lines : List ℕ) → gateResult r ≡ changingFor (unnamedFile (now (widths .entry)) n lines m) (now (values .entry)) (now (verdicts .entry)) i v) ⌝ }
+    ensures { λ r. ⌜ ((file : List ℕ) (ls : List Line) → length ls ≡ m → gateResult r ≡ changingFor (fileOf (variablesIn file (now (variables .entry)) n) ls) (now (values .entry)) (now (verdicts .entry)) i v) ⌝ }
 {
     if values.len() < n {
         return bar(Refusal::TOO_SHORT, Subject::Values, 0);
@@ -119,13 +132,13 @@ fn gate(
         return bar(Refusal::NO_SUCH_VARIABLE, Subject::Call, 0);
     }
     let word = Word {
-        width: widths[i],
+        width: width_of(variables, n, i),
         value: v,
     };
     if !fits(word) {
         return bar(Refusal::VALUE_DOES_NOT_FIT, Subject::Call, 0);
     }
-    match first_unfit(widths, n, values) {
+    match first_unfit(variables, n, values) {
         Found::At(k) => bar(Refusal::HELD_DOES_NOT_FIT, Subject::Values, k),
         Found::Nowhere => match first_above(&verdicts[..m]) {
             Found::At(k) => bar(Refusal::HELD_DOES_NOT_FIT, Subject::Verdicts, k),
@@ -134,22 +147,21 @@ fn gate(
     }
 }
 
-// Renews the verdict on the line at place k, which keeps its rules, where it names variable i.
+// Renews the verdict on line k of the table, which keeps its rules, where it names variable i.
 fn renew_line<'a>(
-    widths: &'a [u64; Edition::VARIABLES],
-    n: usize,
     row: &[u64],
-    lines: &'a [u64; TABLE_WORDS],
+    heads: &'a [u8; TABLE_HEADS],
+    bodies: &'a [u64; TABLE_BODIES],
     verdicts: &mut [u8],
     k: usize,
     i: usize,
 ) -> Renewal
-    requires { ⌜ (n ≤ maxVariables) × (k < length (now verdicts)) × (length (now lines) ≡ tableWords) × (k < maxLines) × Fitting (unnamed (now widths) n) (now row) (lineIn (now lines) k) ⌝ }
-    ensures { λ r. ⌜ (r ≡ renewalOf (unnamed (now (widths .entry)) n) (now (row .entry)) i (lineIn (now (lines .entry)) k) (getD (now (verdicts .entry)) k 0)) × (now (verdicts .exit) ≡ set (now (verdicts .entry)) k (remade (unnamed (now (widths .entry)) n) (now (row .entry)) i (lineIn (now (lines .entry)) k) (getD (now (verdicts .entry)) k 0))) ⌝ }
+    requires { ⌜ (k < length (now verdicts)) × (length (now heads) ≡ tableHeads) × (length (now bodies) ≡ tableBodies) × (k < maxLines) × Judgeable (now row) (now heads) (now bodies) k ⌝ }
+    ensures { λ r. ⌜ ((xs : List Variable) → HeadsFit xs (now (heads .entry)) (now (bodies .entry)) k → (r ≡ renewalOf xs (now (row .entry)) i (lineIn (now (heads .entry)) (now (bodies .entry)) k) (getD (now (verdicts .entry)) k 0)) × (now (verdicts .exit) ≡ set (now (verdicts .entry)) k (remade xs (now (row .entry)) i (lineIn (now (heads .entry)) (now (bodies .entry)) k) (getD (now (verdicts .entry)) k 0)))) ⌝ }
 {
-    if names(i, lines, k) {
+    if names(i, heads, bodies, k) {
         let old = verdicts[k];
-        let judged = judge_line(widths, n, row, lines, k);
+        let judged = judge_line(row, heads, bodies, k);
         let new = judged.verdict;
         verdicts[k] = new;
         return Renewal {
@@ -165,22 +177,21 @@ fn renew_line<'a>(
 
 // Renews the verdicts of the lines that name variable i.
 fn renew<'a>(
-    widths: &'a [u64; Edition::VARIABLES],
-    n: usize,
-    lines: &'a [u64; TABLE_WORDS],
+    heads: &'a [u8; TABLE_HEADS],
+    bodies: &'a [u64; TABLE_BODIES],
     m: usize,
     row: &[u64],
     verdicts: &mut [u8],
     i: usize,
 ) -> Renewal
-    requires { ⌜ (n ≤ maxVariables) × (m ≤ maxLines) × (length (now lines) ≡ tableWords) × (m ≤ length (now verdicts)) × Each (Fitting (unnamed (now widths) n) (now row)) (linesIn (now lines) m) ⌝ }
-    ensures { λ r. ⌜ (now (verdicts .exit) ≡ renewed (unnamedFile (now (widths .entry)) n (now (lines .entry)) m) (now (row .entry)) i (take m (now (verdicts .entry))) ++ drop m (now (verdicts .entry))) × (r .named ≡ howMany (namesIn i) (linesIn (now (lines .entry)) m)) × (r .altered ≡ differing (take m (now (verdicts .entry))) (renewed (unnamedFile (now (widths .entry)) n (now (lines .entry)) m) (now (row .entry)) i (take m (now (verdicts .entry))))) ⌝ }
+    requires { ⌜ (m ≤ maxLines) × (length (now heads) ≡ tableHeads) × (length (now bodies) ≡ tableBodies) × (m ≤ length (now verdicts)) × ((k : ℕ) → k < m → Judgeable (now row) (now heads) (now bodies) k) ⌝ }
+    ensures { λ r. ⌜ ((xs : List Variable) → AllHeadsFit xs (now (heads .entry)) (now (bodies .entry)) m → Renewed (fileOf xs (linesIn (now (heads .entry)) (now (bodies .entry)) m)) m (now (row .entry)) i (now (verdicts .entry)) (now (verdicts .exit)) r) ⌝ }
 {
     let mut named = 0;
     let mut altered = 0;
     let mut k = 0;
     while k < m {
-        let one = renew_line(widths, n, row, lines, verdicts, k, i);
+        let one = renew_line(row, heads, bodies, verdicts, k, i);
         named += one.named;
         altered += one.altered;
         k += 1;
@@ -190,24 +201,25 @@ fn renew<'a>(
 
 // A change on the file that the tables hold.
 fn change_held<'a>(
-    widths: &'a [u64; Edition::VARIABLES],
+    variables: &[u64; Edition::VARIABLES],
     n: usize,
-    lines: &'a [u64; TABLE_WORDS],
+    heads: &'a [u8; TABLE_HEADS],
+    bodies: &'a [u64; TABLE_BODIES],
     m: usize,
     values: &mut [u64],
     verdicts: &mut [u8],
     i: usize,
     v: u64,
 ) -> ChangeReply
-    requires { ⌜ (n ≤ maxVariables) × (m ≤ maxLines) × (length (now lines) ≡ tableWords) × ((row : List ℕ) → RowFits (unnamed (now widths) n) row → Each (Fitting (unnamed (now widths) n) row) (linesIn (now lines) m)) ⌝ }
-    ensures { λ r. ⌜ record { reply = r; values = now (values .exit); verdicts = now (verdicts .exit) } ≡ changeFor (unnamedFile (now (widths .entry)) n (now (lines .entry)) m) (now (values .entry)) (now (verdicts .entry)) i v ⌝ }
+    requires { ⌜ (n ≤ maxVariables) × (m ≤ maxLines) × (length (now heads) ≡ tableHeads) × (length (now bodies) ≡ tableBodies) × ((row : List ℕ) → ((file : List ℕ) → RowFits (variablesIn file (now variables) n) row) → (k : ℕ) → k < m → Judgeable row (now heads) (now bodies) k) ⌝ }
+    ensures { λ r. ⌜ ((file : List ℕ) → AllHeadsFit (variablesIn file (now (variables .entry)) n) (now (heads .entry)) (now (bodies .entry)) m → record { reply = r; values = now (values .exit); verdicts = now (verdicts .exit) } ≡ changeFor (fileOf (variablesIn file (now (variables .entry)) n) (linesIn (now (heads .entry)) (now (bodies .entry)) m)) (now (values .entry)) (now (verdicts .entry)) i v) ⌝ }
 {
-    match gate(widths, n, m, values, verdicts, i, v) {
+    match gate(variables, n, m, values, verdicts, i, v) {
         Gate::Bar(r) => ChangeReply::Refused(r),
         Gate::Pass => {
             let old = values[i];
             values[i] = v;
-            let renewal = renew(widths, n, lines, m, &values[..n], verdicts, i);
+            let renewal = renew(heads, bodies, m, &values[..n], verdicts, i);
             ChangeReply::Changed(Effect {
                 overall: overall(&verdicts[..m]),
                 named: renewal.named,
@@ -228,16 +240,16 @@ pub fn change(
 ) -> ChangeReply
     ensures { λ r. ⌜ record { reply = r; values = now (values .exit); verdicts = now (verdicts .exit) } ≡ changeOutcome (now (constraint .entry)) (now (values .entry)) (now (verdicts .entry)) i v ⌝ }
 {
-    let mut starts = [0usize; Edition::VARIABLES];
-    let mut lens = [0usize; Edition::VARIABLES];
-    let mut widths = [0u64; Edition::VARIABLES];
-    let mut lines = [0u64; TABLE_WORDS];
-    match read(constraint, &mut starts, &mut lens, &mut widths, &mut lines) {
+    let mut variables = [0u64; Edition::VARIABLES];
+    let mut heads = [0u8; TABLE_HEADS];
+    let mut bodies = [0u64; TABLE_BODIES];
+    match read(constraint, &mut variables, &mut heads, &mut bodies) {
         Step::Stop(r) => ChangeReply::Refused(r),
         Step::Next(p) => change_held(
-            &widths,
+            &variables,
             p.variables,
-            &lines,
+            &heads,
+            &bodies,
             p.lines,
             values,
             verdicts,

@@ -28,33 +28,56 @@ use Rattle.text.proofs.TokenLaws.{up-to-join, behind-join}
 use Rattle.text.proofs.RunLaws.{every-of-run, run-part, scan-place, strict-split, strict-rest, strict-on}
 use Rattle.text.proofs.FirstByteLaws.{digit-solid}
 use Rattle.text.proofs.SeenLaws.{digit-bounds, letter-other}
-use Rattle.constraint.specs.declared.Operand.{Operand}
+use Rattle.arithmetic.proofs.RuleLaws.{width-is}
+use Rattle.constraint.specs.File.{Variable}
+use Rattle.store.specs.Tables.{variableMark, operandOf, headWidth}
+use Rattle.store.proofs.LineTableLaws.{operand-constant, constant-fits}
 use Rattle.constraint.specs.declared.Operand.the-variants.{Const}
 use Rattle.operand.specs.declared.OperandRead.the-variants.{Good, Bad}
 use Rattle.constraint.specs.Read.{inConstraint, readConstant}
 use Rattle.text.specs.Scan.{tokenAt}
-use Rattle.operand.specs.Internal.{operandResult, constantOf}
+use Rattle.operand.specs.Internal.{operandResult, constantOf, ReadFits}
+
+-- a width's head is its own
+constant-back : (k v : ℕ) → isWidth k ≡ true → operandOf (headWidth k) v ≡ Const (record { width = k; value = v })
+unfolding headWidth
+constant-back k v e =
+    let l = width-is k e .least in
+    let h = width-is k e .most in
+    let q : k % variableMark ≡ k = omega arith in
+    rw q (operand-constant k v l (omega arith))
+
+-- a constant's head has its width
+pub constant-head-fits : (xs : List Variable) (n : Number) (type : TypeRead) → ReadFits xs (constantOf n type)
+unfolding headWidth
+constant-head-fits xs Misspelt type = tt
+constant-head-fits xs TooBig NoType = tt
+constant-head-fits xs TooBig NoWidth = tt
+constant-head-fits xs TooBig (Width k) = tt
+constant-head-fits xs (Value v) NoType = tt
+constant-head-fits xs (Value v) NoWidth = tt
+constant-head-fits xs (Value v) (Width k) = constant-fits xs (k % variableMark) (v % 2 ^ k) (omega arith)
 
 -- the tests, whatever they say
-constant-split : (t : Token) (v k : ℕ) (numeral type width below : Bool) → operandResult t (constantOf (cond numeral (cond below (Value v) TooBig) Misspelt) (cond type (cond width (Width k) NoWidth) NoType)) ≡ (do
+constant-split : (t : Token) (v k : ℕ) (numeral type width below : Bool) → isWidth k ≡ width → operandResult t (constantOf (cond numeral (cond below (Value v) TooBig) Misspelt) (cond type (cond width (Width k) NoWidth) NoType)) ≡ (do
   ensure (numeral && type) (inConstraint t misspelt)
   ensure width (inConstraint t notAWidth)
   ensure below (inConstraint t numberTooLarge)
   accepted (Const (record { width = k; value = v % 2 ^ k })))
-constant-split t v k true true true true = refl
-constant-split t v k true true true false = refl
-constant-split t v k true true false true = refl
-constant-split t v k true true false false = refl
-constant-split t v k true false width true = refl
-constant-split t v k true false width false = refl
-constant-split t v k false type width below = refl
+constant-split t v k true true true true e = ap accepted (constant-back k (v % 2 ^ k) e)
+constant-split t v k true true true false e = refl
+constant-split t v k true true false true e = refl
+constant-split t v k true true false false e = refl
+constant-split t v k true false width true e = refl
+constant-split t v k true false width false e = refl
+constant-split t v k false type width below e = refl
 
 constant-is : (t : Token) → operandResult t (constantOf (numberRead maxDigits (upTo (code ":") (t .bytes))) (typeOf (behind (code ":") (t .bytes)))) ≡ readConstant t
 unfolding readConstant numberRead typeOf
 constant-is t =
     let number = upTo (code ":") (t .bytes) in
     let type = behind (code ":") (t .bytes) in
-    constant-split t (decimal number) (typeWidth type) (isNumeral maxDigits number) (isType type) (isWidth (typeWidth type)) (ltb (decimal number) numberBound)
+    constant-split t (decimal number) (typeWidth type) (isNumeral maxDigits number) (isType type) (isWidth (typeWidth type)) (ltb (decimal number) numberBound) refl
 
 constant-bytes : (t : Token) (s : List ℕ) → t .bytes ≡ s → operandResult t (constantOf (numberRead maxDigits (upTo 58 s)) (typeOf (behind 58 s))) ≡ readConstant t
 constant-bytes t s q = rw (← q) (constant-is t)
@@ -75,7 +98,7 @@ run-cons p b s e = rw e
 first-fails : (p : ℕ → Bool) (b : ℕ) (s : List ℕ) → frontOf p (b ∷ s) ≡ [] → p b ≡ false
 first-fails p b s r = fails (p b) (λ e. omega (arith, ap length (sym (run-cons p b s e) ∙ r)))
 
-never-good : {A : Type 0} {number : ℕ} {o : Operand} → Bad number ≡ Good o → A
+never-good : {A : Type 0} {number head body : ℕ} → Bad number ≡ Good head body → A
 never-good e = let z : _≡_ {A = ℕ} 0 1 = cc e in absurd (omega arith)
 
 -- no type, no constant, whatever the number
@@ -126,14 +149,14 @@ pub letter-misspelt : (t : Token) (b : ℕ) (s : List ℕ) → t .bytes ≡ b �
 letter-misspelt t b s q e = let l = letter-other b e in rw (other-number [] every-none maxDigits b s (l .0) (l .1)) at (constant-bytes t (b ∷ s) q)
 
 -- the type of a constant tells where its token stops
-pub good-stops : (n : Number) (type : TypeRead) (o : Operand) (end stop : ℕ) → constantOf n type ≡ Good o → StopsAt end stop type → stop ≡ end
-good-stops Misspelt type o end stop e h = never-good e
-good-stops TooBig NoType o end stop e h = never-good e
-good-stops TooBig NoWidth o end stop e h = h
-good-stops TooBig (Width k) o end stop e h = h
-good-stops (Value v) NoType o end stop e h = never-good e
-good-stops (Value v) NoWidth o end stop e h = h
-good-stops (Value v) (Width k) o end stop e h = h
+pub good-stops : (n : Number) (type : TypeRead) (head body end stop : ℕ) → constantOf n type ≡ Good head body → StopsAt end stop type → stop ≡ end
+good-stops Misspelt type head body end stop e h = never-good e
+good-stops TooBig NoType head body end stop e h = never-good e
+good-stops TooBig NoWidth head body end stop e h = h
+good-stops TooBig (Width k) head body end stop e h = h
+good-stops (Value v) NoType head body end stop e h = never-good e
+good-stops (Value v) NoWidth head body end stop e h = h
+good-stops (Value v) (Width k) head body end stop e h = h
 
 -- ---- the constant whose token starts at `start`: its digits stop at `colon`
 module _ (line : List ℕ) (start colon : ℕ) (h : start ≤ length line) (hc : colon ≡ past (isOf Digit) line start) where

@@ -1,11 +1,10 @@
 // Constants, `digits:iK`.
 use super::OperandRead;
 use super::Taken;
-use arithmetic::Word;
 use arithmetic::rules::reduced;
-use constraint::Operand;
 use constraint::refusals::refusal;
 use refusal::Refusal;
+use store::lines::constant_head;
 use text::Number;
 use text::TypeRead;
 use text::numbers::MAX_DIGITS;
@@ -13,10 +12,12 @@ use text::numbers::digits_at;
 use text::numbers::type_at;
 use text::numbers::within_digits;
 ghost use mathlib.Core.Path.{_≡_};
+ghost use mathlib.Core.List.{List};
 ghost use Prim.Native.Nat.{_≤_};
 ghost use lib.ListN.{length};
+ghost use Rattle.constraint.specs.File.{Variable};
 ghost use Rattle.constraint.specs.Read.{readConstant};
-ghost use Rattle.operand.specs.Internal.{constantOf, takenFrom, takenResult, TakenWithin};
+ghost use Rattle.operand.specs.Internal.{constantOf, takenFrom, takenResult, TakenWithin, TakenFits};
 
 // The constant with this number and this type.
 fn constant_of(number: Number, kind: TypeRead) -> OperandRead
@@ -32,10 +33,7 @@ fn constant_of(number: Number, kind: TypeRead) -> OperandRead
         Number::Value(v) => match kind {
             TypeRead::NoType => OperandRead::Bad(Refusal::MISSPELT),
             TypeRead::NoWidth => OperandRead::Bad(Refusal::NOT_A_WIDTH),
-            TypeRead::Width(k) => OperandRead::Good(Operand::Const(Word {
-                width: k,
-                value: reduced(k, v),
-            })),
+            TypeRead::Width(k) => OperandRead::Good(constant_head(k), reduced(k, v)),
         },
     }
 }
@@ -43,7 +41,7 @@ fn constant_of(number: Number, kind: TypeRead) -> OperandRead
 // The constant whose token starts at `at`.
 pub fn constant(line: &[u8], at: usize) -> Taken
     requires { ⌜ at ≤ length (now line) ⌝ }
-    ensures { λ r. ⌜ (takenResult (now (line .entry)) r ≡ takenFrom readConstant (now (line .entry)) at) × TakenWithin (now (line .entry)) r ⌝ }
+    ensures { λ r. ⌜ (takenResult (now (line .entry)) r ≡ takenFrom readConstant (now (line .entry)) at) × TakenWithin (now (line .entry)) r × ((xs : List Variable) → TakenFits xs r) ⌝ }
 {
     let digits = digits_at(line, at);
     let colon = digits.stop;
@@ -54,6 +52,6 @@ pub fn constant(line: &[u8], at: usize) -> Taken
     let kind = found.kind;
     match constant_of(number, kind) {
         OperandRead::Bad(n) => Taken::Halt(refusal(n, at)),
-        OperandRead::Good(o) => Taken::Got(o, stop),
+        OperandRead::Good(head, body) => Taken::Got(head, body, stop),
     }
 }

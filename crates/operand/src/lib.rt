@@ -1,18 +1,17 @@
 // Reading an operand: a variable by its name, or a constant.
-use constraint::Operand;
 use refusal::Refusal;
 
 pub mod constants;
 pub mod variables;
 
-// An operand, or the number of its token's refusal.
+// The head and the body of an operand, or the number of its token's refusal.
 pub enum OperandRead {
-    Good(Operand),
+    Good(u8, u64),
     Bad(u8),
 }
 
-// The next operand, and where the tokens behind it start.
+// The head and the body of the next operand, and where the tokens behind it start.
 pub enum Taken {
-    Got(Operand, usize),
+    Got(u8, u64, usize),
     Halt(Refusal),
 }

@@ -1,3 +1,2 @@
 pub mod Inspect
 pub mod Edges
-pub mod Internal

@@ -3,7 +3,8 @@ use edition::Edition;
 use reading::read;
 use refusal::Refusal;
 use store::Step;
-use store::lines::TABLE_WORDS;
+use store::lines::TABLE_BODIES;
+use store::lines::TABLE_HEADS;
 ghost use mathlib.Core.Path.{_≡_};
 ghost use Rattle.reader.specs.Inspect.{inspectOutcome};
 
@@ -25,11 +26,10 @@ pub enum Inspected {
 pub fn inspect(file: &[u8]) -> Inspected
     ensures { λ r. ⌜ r ≡ inspectOutcome (now (file .entry)) ⌝ }
 {
-    let mut starts = [0usize; Edition::VARIABLES];
-    let mut lens = [0usize; Edition::VARIABLES];
-    let mut widths = [0u64; Edition::VARIABLES];
-    let mut lines = [0u64; TABLE_WORDS];
-    match read(file, &mut starts, &mut lens, &mut widths, &mut lines) {
+    let mut variables = [0u64; Edition::VARIABLES];
+    let mut heads = [0u8; TABLE_HEADS];
+    let mut bodies = [0u64; TABLE_BODIES];
+    match read(file, &mut variables, &mut heads, &mut bodies) {
         Step::Stop(r) => Inspected::Refused(r),
         Step::Next(p) => Inspected::Sound(Counts {
             variables: p.variables,

@@ -9,12 +9,13 @@ use edition::Edition;
 use refusal::Refusal;
 use statement::LineRead;
 use statement::operations::statement_line;
+use store::Added;
 use store::Expectation;
 use store::Progress;
 use store::Step;
 use store::Version;
-use store::lines::TABLE_WORDS;
-use store::lines::store_line;
+use store::lines::TABLE_BODIES;
+use store::lines::TABLE_HEADS;
 use store::names::BYTES;
 use text::Class;
 use text::LineFound;
@@ -23,25 +24,20 @@ use text::scan::find_line;
 use text::scan::leads;
 ghost use mathlib.Core.Path.{_≡_};
 ghost use mathlib.Core.Bool.{true};
-ghost use mathlib.Core.List.{List};
 ghost use Prim.Native.Nat.{ℕ, _<_, _≤_};
 ghost use lib.ListN.{length, take, drop};
-ghost use Rattle.edition.specs.Edition.{maxLines};
+ghost use Rattle.edition.specs.Edition.{maxFileBytes};
 ghost use Rattle.refusal.specs.Lists.{every};
 ghost use Rattle.refusal.specs.declared.Subject.the-variants.{Constraint as TheConstraint};
 ghost use Rattle.text.specs.Lines.{textLines};
 ghost use Rattle.text.specs.Reading.{readAnyLine, readLines};
 ghost use Rattle.text.specs.declared.Class.the-variants.{Allowed};
-ghost use Rattle.text.specs.Scan.{isOf};
+ghost use Rattle.text.specs.Scan.{isOf, lineAt};
 ghost use Rattle.constraint.specs.File.{emptyFile};
-ghost use Rattle.store.specs.Tables.{tableWords};
-ghost use Rattle.constraint.specs.Read.{kindOf, addLine, readLine, readFile};
+ghost use Rattle.constraint.specs.Read.{kindOf, readStatement, addLine, readLine, readFile};
 ghost use Rattle.constraint.specs.Sound.{Distinct};
-ghost use Rattle.store.specs.Tables.{byteValues, storedVariables, storeOf, StoreSized};
-ghost use Rattle.statement.specs.Internal.{lineResult};
-ghost use Rattle.reader.specs.Internal.{HasRoom};
-ghost use Rattle.store.specs.Progress.{nothingRead, withLineRead, storedFile, stepResult, InTables, StepInTables};
-ghost use Rattle.text.specs.Scan.{lineAt};
+ghost use Rattle.store.specs.Tables.{byteValues, tableHeads, tableBodies, variablesIn, storeOf, StoreSized};
+ghost use Rattle.store.specs.Progress.{nothingRead, storedFile, HeadsInUseFit, InTables, stepResult, advanced, addedResult, HasRoom, StepInTables, StepHeadsFit};
 
 // The kind of the line from `at` to the end.
 fn kind_of(line: &[u8], at: usize) -> Kind
@@ -69,32 +65,38 @@ fn kind_of(line: &[u8], at: usize) -> Kind
     Kind::OfNoKind
 }
 
-fn with_line(p: Progress) -> Progress
-    requires { ⌜ p .lines < maxLines ⌝ }
-    ensures { λ r. ⌜ r ≡ withLineRead p ⌝ }
+// The `c` or `p` line that stops at `stop`, from `at` on, put behind those that are held.
+fn read_statement<'a>(
+    file: &[u8],
+    stop: usize,
+    at: usize,
+    form: Form,
+    variables: &'a [u64; Edition::VARIABLES],
+    guesses: &'a [usize; BYTES],
+    heads: &mut [u8; TABLE_HEADS],
+    bodies: &mut [u64; TABLE_BODIES],
+    p: Progress,
+) -> Added
+    requires { ⌜ (at < stop) × (stop ≤ length (now file)) × InTables p × (length (now heads) ≡ tableHeads) × (length (now bodies) ≡ tableBodies) × Distinct (variablesIn (now file) (now variables) (p .variables)) ⌝ }
+    ensures { λ r. ⌜ ((next : ℕ) → addedResult (now (file .entry)) (storeOf (now (variables .entry)) (now (heads .exit)) (now (bodies .exit))) p r ≡ addLine (storedFile (now (file .entry)) (storeOf (now (variables .entry)) (now (heads .entry)) (now (bodies .entry))) p) (readStatement form (storedFile (now (file .entry)) (storeOf (now (variables .entry)) (now (heads .entry)) (now (bodies .entry))) p) (lineAt (take stop (now (file .entry))) at next))) × (length (now (heads .exit)) ≡ tableHeads) × (length (now (bodies .exit)) ≡ tableBodies) × HasRoom p r × (HeadsInUseFit (now (file .entry)) (storeOf (now (variables .entry)) (now (heads .entry)) (now (bodies .entry))) p → StepHeadsFit (now (file .entry)) (storeOf (now (variables .entry)) (now (heads .exit)) (now (bodies .exit))) (advanced p r)) ⌝ }
 {
-    let version = p.version;
-    let expectation = p.expectation;
-    Progress {
-        version,
-        expectation,
-        variables: p.variables,
-        lines: p.lines + 1,
-    }
-}
-
-// Puts a line that was read behind those that are held.
-fn add_line(lines: &mut [u64; TABLE_WORDS], p: Progress, read: LineRead) -> Step
-    requires { ⌜ (length (now lines) ≡ tableWords) × InTables p × HasRoom p read ⌝ }
-    ensures { λ r. ⌜ ((file starts lens widths : List ℕ) → stepResult file (storeOf starts lens widths (now (lines .exit))) r ≡ addLine (storedFile file (storeOf starts lens widths (now (lines .entry))) p) (lineResult read)) × (length (now (lines .exit)) ≡ tableWords) × StepInTables r ⌝ }
-{
-    match read {
-        LineRead::NoLine(r) => Step::Stop(r),
-        LineRead::HasLine(line) => {
-            let n = p.lines;
-            store_line(lines, n, line);
-            Step::Next(with_line(p))
-        }
+    let n = p.variables;
+    let m = p.lines;
+    let line = &file[..stop];
+    match statement_line(
+        file,
+        variables,
+        guesses,
+        n,
+        line,
+        at,
+        form,
+        heads,
+        bodies,
+        m,
+    ) {
+        LineRead::NoLine(r) => Added::Fault(r),
+        LineRead::Complete => Added::LinePart,
     }
 }
 
@@ -103,39 +105,24 @@ fn read_line(
     file: &[u8],
     stop: usize,
     at: usize,
-    starts: &mut [usize; Edition::VARIABLES],
-    lens: &mut [usize; Edition::VARIABLES],
+    variables: &mut [u64; Edition::VARIABLES],
     guesses: &mut [usize; BYTES],
-    widths: &mut [u64; Edition::VARIABLES],
-    lines: &mut [u64; TABLE_WORDS],
+    heads: &mut [u8; TABLE_HEADS],
+    bodies: &mut [u64; TABLE_BODIES],
     p: Progress,
-) -> Step
-    requires { ⌜ (at < stop) × (stop ≤ length (now file)) × InTables p × StoreSized (storeOf (now starts) (now lens) (now widths) (now lines)) × (length (now guesses) ≡ byteValues) × Distinct (storedVariables (now file) (storeOf (now starts) (now lens) (now widths) (now lines)) (p .variables)) ⌝ }
-    ensures { λ r. ⌜ ((next : ℕ) → stepResult (now (file .entry)) (storeOf (now (starts .exit)) (now (lens .exit)) (now (widths .exit)) (now (lines .exit))) r ≡ readLine (storedFile (now (file .entry)) (storeOf (now (starts .entry)) (now (lens .entry)) (now (widths .entry)) (now (lines .entry))) p) (lineAt (take stop (now (file .entry))) at next)) × StoreSized (storeOf (now (starts .exit)) (now (lens .exit)) (now (widths .exit)) (now (lines .exit))) × (length (now (guesses .exit)) ≡ byteValues) × StepInTables r ⌝ }
+) -> Added
+    requires { ⌜ (at < stop) × (stop ≤ length (now file)) × (length (now file) ≤ maxFileBytes) × InTables p × StoreSized (storeOf (now variables) (now heads) (now bodies)) × (length (now guesses) ≡ byteValues) × Distinct (variablesIn (now file) (now variables) (p .variables)) ⌝ }
+    ensures { λ r. ⌜ ((next : ℕ) → addedResult (now (file .entry)) (storeOf (now (variables .exit)) (now (heads .exit)) (now (bodies .exit))) p r ≡ readLine (storedFile (now (file .entry)) (storeOf (now (variables .entry)) (now (heads .entry)) (now (bodies .entry))) p) (lineAt (take stop (now (file .entry))) at next)) × StoreSized (storeOf (now (variables .exit)) (now (heads .exit)) (now (bodies .exit))) × (length (now (guesses .exit)) ≡ byteValues) × HasRoom p r × (HeadsInUseFit (now (file .entry)) (storeOf (now (variables .entry)) (now (heads .entry)) (now (bodies .entry))) p → StepHeadsFit (now (file .entry)) (storeOf (now (variables .exit)) (now (heads .exit)) (now (bodies .exit))) (advanced p r)) ⌝ }
 {
-    let n = p.variables;
-    let m = p.lines;
     match kind_of(&file[..stop], at) {
-        Kind::Skipped => Step::Next(p),
+        Kind::Skipped => Added::NoPart,
         Kind::OfVersion => header_line(&file[..stop], at, p, HeaderLine::VersionLine),
         Kind::OfExpectation => header_line(&file[..stop], at, p, HeaderLine::ExpectationLine),
-        Kind::OfDeclarations => declaration_line(file, stop, at, starts, lens, guesses, widths, p),
+        Kind::OfDeclarations => declaration_line(file, stop, at, variables, guesses, p),
         Kind::OfStatement(form) => {
-            let read = statement_line(
-                file,
-                starts,
-                lens,
-                guesses,
-                widths,
-                n,
-                m,
-                &file[..stop],
-                at,
-                form,
-            );
-            add_line(lines, p, read)
+            read_statement(file, stop, at, form, variables, guesses, heads, bodies, p)
         }
-        Kind::OfNoKind => Step::Stop(refusal(Refusal::UNKNOWN_LINE, at)),
+        Kind::OfNoKind => Added::Fault(refusal(Refusal::UNKNOWN_LINE, at)),
     }
 }
 
@@ -144,20 +131,19 @@ fn read_any_line(
     file: &[u8],
     stop: usize,
     at: usize,
-    starts: &mut [usize; Edition::VARIABLES],
-    lens: &mut [usize; Edition::VARIABLES],
+    variables: &mut [u64; Edition::VARIABLES],
     guesses: &mut [usize; BYTES],
-    widths: &mut [u64; Edition::VARIABLES],
-    lines: &mut [u64; TABLE_WORDS],
+    heads: &mut [u8; TABLE_HEADS],
+    bodies: &mut [u64; TABLE_BODIES],
     p: Progress,
-) -> Step
-    requires { ⌜ (at ≤ stop) × (stop ≤ length (now file)) × InTables p × StoreSized (storeOf (now starts) (now lens) (now widths) (now lines)) × (length (now guesses) ≡ byteValues) × Distinct (storedVariables (now file) (storeOf (now starts) (now lens) (now widths) (now lines)) (p .variables)) × (every (isOf Allowed) (drop at (take stop (now file))) ≡ true) ⌝ }
-    ensures { λ r. ⌜ ((next : ℕ) → stepResult (now (file .entry)) (storeOf (now (starts .exit)) (now (lens .exit)) (now (widths .exit)) (now (lines .exit))) r ≡ readAnyLine TheConstraint readLine (storedFile (now (file .entry)) (storeOf (now (starts .entry)) (now (lens .entry)) (now (widths .entry)) (now (lines .entry))) p) (lineAt (take stop (now (file .entry))) at next)) × StoreSized (storeOf (now (starts .exit)) (now (lens .exit)) (now (widths .exit)) (now (lines .exit))) × (length (now (guesses .exit)) ≡ byteValues) × StepInTables r ⌝ }
+) -> Added
+    requires { ⌜ (at ≤ stop) × (stop ≤ length (now file)) × (length (now file) ≤ maxFileBytes) × InTables p × StoreSized (storeOf (now variables) (now heads) (now bodies)) × (length (now guesses) ≡ byteValues) × Distinct (variablesIn (now file) (now variables) (p .variables)) × (every (isOf Allowed) (drop at (take stop (now file))) ≡ true) ⌝ }
+    ensures { λ r. ⌜ ((next : ℕ) → addedResult (now (file .entry)) (storeOf (now (variables .exit)) (now (heads .exit)) (now (bodies .exit))) p r ≡ readAnyLine TheConstraint readLine (storedFile (now (file .entry)) (storeOf (now (variables .entry)) (now (heads .entry)) (now (bodies .entry))) p) (lineAt (take stop (now (file .entry))) at next)) × StoreSized (storeOf (now (variables .exit)) (now (heads .exit)) (now (bodies .exit))) × (length (now (guesses .exit)) ≡ byteValues) × HasRoom p r × (HeadsInUseFit (now (file .entry)) (storeOf (now (variables .entry)) (now (heads .entry)) (now (bodies .entry))) p → StepHeadsFit (now (file .entry)) (storeOf (now (variables .exit)) (now (heads .exit)) (now (bodies .exit))) (advanced p r)) ⌝ }
 {
     if all(&file[..stop], at, Class::Space) {
-        return Step::Next(p);
+        return Added::NoPart;
     }
-    read_line(file, stop, at, starts, lens, guesses, widths, lines, p)
+    read_line(file, stop, at, variables, guesses, heads, bodies, p)
 }
 
 // Nothing read yet.
@@ -172,17 +158,55 @@ fn nothing() -> Progress
     }
 }
 
+// The step from p on by what a line adds.
+fn advance(p: Progress, added: Added) -> Step
+    requires { ⌜ HasRoom p added ⌝ }
+    ensures { λ r. ⌜ r ≡ advanced p added ⌝ }
+{
+    let version = p.version;
+    let expectation = p.expectation;
+    let variables = p.variables;
+    let lines = p.lines;
+    match added {
+        Added::Fault(r) => Step::Stop(r),
+        Added::NoPart => Step::Next(p),
+        Added::VersionPart(e) => Step::Next(Progress {
+            version: Version::HasVersion(e),
+            expectation,
+            variables,
+            lines,
+        }),
+        Added::ExpectationPart(n) => Step::Next(Progress {
+            version,
+            expectation: Expectation::HasExpectation(n),
+            variables,
+            lines,
+        }),
+        Added::VariablesPart(n) => Step::Next(Progress {
+            version,
+            expectation,
+            variables: n,
+            lines,
+        }),
+        Added::LinePart => Step::Next(Progress {
+            version,
+            expectation,
+            variables,
+            lines: lines + 1,
+        }),
+    }
+}
+
 // Reads all lines.
 fn read_lines(
     file: &[u8],
-    starts: &mut [usize; Edition::VARIABLES],
-    lens: &mut [usize; Edition::VARIABLES],
+    variables: &mut [u64; Edition::VARIABLES],
     guesses: &mut [usize; BYTES],
-    widths: &mut [u64; Edition::VARIABLES],
-    lines: &mut [u64; TABLE_WORDS],
+    heads: &mut [u8; TABLE_HEADS],
+    bodies: &mut [u64; TABLE_BODIES],
 ) -> Step
-    requires { ⌜ StoreSized (storeOf (now starts) (now lens) (now widths) (now lines)) × (length (now guesses) ≡ byteValues) ⌝ }
-    ensures { λ r. ⌜ (stepResult (now (file .entry)) (storeOf (now (starts .exit)) (now (lens .exit)) (now (widths .exit)) (now (lines .exit))) r ≡ readLines TheConstraint readLine emptyFile (textLines (now (file .entry)))) × StoreSized (storeOf (now (starts .exit)) (now (lens .exit)) (now (widths .exit)) (now (lines .exit))) × (length (now (guesses .exit)) ≡ byteValues) × StepInTables r ⌝ }
+    requires { ⌜ (length (now file) ≤ maxFileBytes) × StoreSized (storeOf (now variables) (now heads) (now bodies)) × (length (now guesses) ≡ byteValues) ⌝ }
+    ensures { λ r. ⌜ (stepResult (now (file .entry)) (storeOf (now (variables .exit)) (now (heads .exit)) (now (bodies .exit))) r ≡ readLines TheConstraint readLine emptyFile (textLines (now (file .entry)))) × StoreSized (storeOf (now (variables .exit)) (now (heads .exit)) (now (bodies .exit))) × (length (now (guesses .exit)) ≡ byteValues) × StepInTables r × StepHeadsFit (now (file .entry)) (storeOf (now (variables .exit)) (now (heads .exit)) (now (bodies .exit))) r ⌝ }
 {
     let mut p = nothing();
     let mut i = 0;
@@ -192,7 +216,8 @@ fn read_lines(
                 return Step::Stop(refusal(Refusal::BYTE_NOT_ALLOWED, bad));
             }
             LineFound::Ends(stop, next) => {
-                match read_any_line(file, stop, i, starts, lens, guesses, widths, lines, p) {
+                let added = read_any_line(file, stop, i, variables, guesses, heads, bodies, p);
+                match advance(p, added) {
                     Step::Stop(r) => {
                         return Step::Stop(r);
                     }
@@ -210,19 +235,18 @@ fn read_lines(
 // Reads a file into tables.
 pub fn read(
     file: &[u8],
-    starts: &mut [usize; Edition::VARIABLES],
-    lens: &mut [usize; Edition::VARIABLES],
-    widths: &mut [u64; Edition::VARIABLES],
-    lines: &mut [u64; TABLE_WORDS],
+    variables: &mut [u64; Edition::VARIABLES],
+    heads: &mut [u8; TABLE_HEADS],
+    bodies: &mut [u64; TABLE_BODIES],
 ) -> Step
-    requires { ⌜ StoreSized (storeOf (now starts) (now lens) (now widths) (now lines)) ⌝ }
-    ensures { λ r. ⌜ (stepResult (now (file .entry)) (storeOf (now (starts .exit)) (now (lens .exit)) (now (widths .exit)) (now (lines .exit))) r ≡ readFile (now (file .entry))) × StoreSized (storeOf (now (starts .exit)) (now (lens .exit)) (now (widths .exit)) (now (lines .exit))) × StepInTables r ⌝ }
+    requires { ⌜ StoreSized (storeOf (now variables) (now heads) (now bodies)) ⌝ }
+    ensures { λ r. ⌜ (stepResult (now (file .entry)) (storeOf (now (variables .exit)) (now (heads .exit)) (now (bodies .exit))) r ≡ readFile (now (file .entry))) × StoreSized (storeOf (now (variables .exit)) (now (heads .exit)) (now (bodies .exit))) × StepInTables r × StepHeadsFit (now (file .entry)) (storeOf (now (variables .exit)) (now (heads .exit)) (now (bodies .exit))) r ⌝ }
 {
     if Edition::FILE_BYTES < file.len() {
         return Step::Stop(refusal(Refusal::FILE_TOO_LONG, Edition::FILE_BYTES));
     }
     let mut guesses = [0usize; BYTES];
-    match read_lines(file, starts, lens, &mut guesses, widths, lines) {
+    match read_lines(file, variables, &mut guesses, heads, bodies) {
         Step::Stop(r) => Step::Stop(r),
         Step::Next(p) => {
             let version = p.version;

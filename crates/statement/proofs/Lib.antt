@@ -1,3 +1,3 @@
 -- Laws that belong to no one function.
-pub mod OperandLaws
 pub mod TypingLaws
+pub mod OperandLaws

@@ -1,27 +1,94 @@
--- The type rule goes by the widths of the variables, not by their names. Assumes nothing.
-use mathlib.Core.Path.{_≡_, refl, ap}
+-- Operands by their heads, as the type rules see them. Assumes nothing.
+use mathlib.Core.Path.{_≡_, refl, sym, _∙_}
+use mathlib.Core.Bool.{Bool, true, false, _&&_}
 use mathlib.Core.List.{List}
-use Prim.Native.Nat.{ℕ}
-use Rattle.constraint.specs.declared.Operand.{Operand}
+use Prim.Native.Nat.{ℕ, _≤_, _<_}
+use native.Mathlib.Decide.{ℕ-discrete, decLt}
+use native.Mathlib.Omega.{arith}
+use lib.Dec.{ltb}
+use borrow.Author.Tests.{lt-ltb, le-ltb}
+use Rattle.arithmetic.specs.declared.Operator.{Operator}
+use Rattle.arithmetic.specs.declared.Word.{Word}
+use Rattle.arithmetic.specs.Rules.{i1}
 use Rattle.constraint.specs.declared.Operand.the-variants.{Absent, Var, Const}
-use Rattle.constraint.specs.declared.Line.{Line}
-use Rattle.constraint.specs.TypeRules.{ruleWord, resultWidth, wellTyped}
-use Rattle.store.specs.Tables.{variablesIn, unnamed}
-use Rattle.store.proofs.WidthLaws.{width-unnamed}
+use Rattle.constraint.specs.File.{Variable}
+use Rattle.constraint.specs.TypeRules.{ruleWord, resultWidth, isConstant, isPredicate, predicateRule}
+use Rattle.store.specs.Tables.{variableMark, operandOf, headWidth}
+use Rattle.store.proofs.LineTableLaws.{operand-variable, operand-constant}
 
-module _ (file starts lens widths : List ℕ) (n : ℕ) where
-  word-unnamed : (o : Operand) → ruleWord (unnamed widths n) o ≡ ruleWord (variablesIn file starts lens widths n) o
+differ : _≡_ {A = Bool} true false → ⊥
+differ e = let z : _≡_ {A = ℕ} 0 1 = cc e in omega arith
+
+pub operand-absent : (body : ℕ) → operandOf 0 body ≡ Absent
+unfolding operandOf
+operand-absent body = refl
+
+-- what a head says of its operand
+pub data HeadOf (head body : ℕ) : Type 0 where
+  absent : head ≡ 0 → operandOf head body ≡ Absent → HeadOf head body
+  constant : 1 ≤ head → head < variableMark → operandOf head body ≡ Const (record { width = head; value = body }) → HeadOf head body
+  variable : variableMark ≤ head → operandOf head body ≡ Var body → HeadOf head body
+
+pub head-of : (head body : ℕ) → HeadOf head body
+head-of head body = elim (ℕ-discrete head 0) [
+  | yes e ↦ absent e (rw e (operand-absent body))
+  | no d ↦ elim (decLt head variableMark) [
+    | yes h ↦ let l : 1 ≤ head = omega arith in constant l h (operand-constant head body l h)
+    | no h ↦ let l : variableMark ≤ head = omega arith in variable l (operand-variable head body l)
+  ]
+]
+
+module _ (head body : ℕ) (op : Operator) (ws : List Word) where
+  pub predicate-absent : head ≡ 0 → isPredicate op ws ≡ predicateRule (operandOf head body) op ws
+  unfolding predicateRule
+  predicate-absent e = rw (e, operand-absent body)
+
+  pub predicate-there : ¬ (head ≡ 0) → true ≡ predicateRule (operandOf head body) op ws
+  unfolding predicateRule
+  predicate-there d = go (head-of head body)
+    where
+      go : HeadOf head body → true ≡ predicateRule (operandOf head body) op ws
+      go (absent e q) = absurd (d e)
+      go (constant l h q) = rw q
+      go (variable l q) = rw q
+
+module _ (xs : List Variable) (head body : ℕ) (fits : ruleWord xs (operandOf head body) .width ≡ headWidth head) where
+  pub rule-constant : (ltb 0 head && ltb head variableMark) ≡ true → record { width = headWidth head; value = body } ≡ ruleWord xs (operandOf head body)
   unfolding ruleWord
-  word-unnamed Absent = refl
-  word-unnamed (Var i) = ap (λ k. record { width = k; value = 0 }) (width-unnamed file starts lens widths n i)
-  word-unnamed (Const w) = refl
+  rule-constant e = go (head-of head body)
+    where
+      go : HeadOf head body → record { width = headWidth head; value = body } ≡ ruleWord xs (operandOf head body)
+      go (absent z q) = let y : _≡_ {A = Bool} true false = sym e ∙ rw z in absurd (differ y)
+      go (constant l h q) = rw (← fits, q)
+      go (variable l q) = let y : _≡_ {A = Bool} true false = sym e ∙ rw (lt-ltb 0 head (omega arith), le-ltb head variableMark l) in absurd (differ y)
 
-  result-unnamed : (o : Operand) → resultWidth (unnamed widths n) o ≡ resultWidth (variablesIn file starts lens widths n) o
-  unfolding resultWidth
-  result-unnamed Absent = refl
-  result-unnamed (Var i) = width-unnamed file starts lens widths n i
-  result-unnamed (Const w) = refl
+  pub rule-other : (ltb 0 head && ltb head variableMark) ≡ false → record { width = headWidth head; value = 0 } ≡ ruleWord xs (operandOf head body)
+  unfolding ruleWord
+  rule-other e = go (head-of head body)
+    where
+      go : HeadOf head body → record { width = headWidth head; value = 0 } ≡ ruleWord xs (operandOf head body)
+      go (absent z q) = rw (← fits, q)
+      go (constant l h q) = let y : _≡_ {A = Bool} true false = sym (rw (lt-ltb 0 head l, lt-ltb head variableMark h)) ∙ e in absurd (differ y)
+      go (variable l q) = rw (← fits, q)
 
-  pub well-typed-unnamed : (l : Line) → wellTyped (unnamed widths n) l ≡ wellTyped (variablesIn file starts lens widths n) l
-  unfolding wellTyped
-  well-typed-unnamed l = rw (word-unnamed (l .operands .first), word-unnamed (l .operands .second), word-unnamed (l .operands .third), result-unnamed (l .output))
+  pub result-there : ¬ (head ≡ 0) → headWidth head ≡ resultWidth xs (operandOf head body)
+  unfolding ruleWord resultWidth
+  result-there d = go (head-of head body)
+    where
+      go : HeadOf head body → headWidth head ≡ resultWidth xs (operandOf head body)
+      go (absent e q) = absurd (d e)
+      go (constant l h q) = rw (← fits, q)
+      go (variable l q) = rw (← fits, q)
+
+pub result-absent : (xs : List Variable) (head body : ℕ) → head ≡ 0 → i1 ≡ resultWidth xs (operandOf head body)
+unfolding resultWidth
+result-absent xs head body e = rw (e, operand-absent body)
+
+pub constant-is : (head body : ℕ) → isConstant (operandOf head body) ≡ (ltb 0 head && ltb head variableMark)
+unfolding isConstant
+constant-is head body = go (head-of head body)
+  where
+    go : HeadOf head body → isConstant (operandOf head body) ≡ (ltb 0 head && ltb head variableMark)
+    go (absent e q) = rw (q, e)
+    go (constant l h q) = rw (q, lt-ltb 0 head l, lt-ltb head variableMark h)
+    go (variable l q) = let p : 0 < head = omega arith in rw (q, lt-ltb 0 head p, le-ltb head variableMark l)

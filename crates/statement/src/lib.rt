@@ -1,17 +1,23 @@
 // The `c` and `p` lines: their operator, their operands and their type rule.
-use constraint::Line;
-use constraint::Operands;
 use refusal::Refusal;
 
 pub mod operations;
 mod typing;
 
-pub enum TakenAll {
-    All(Operands, usize),
-    HaltAll(Refusal),
+// How far a line is read: where the tokens behind that start, the slot of the last operand, and the operator's place.
+pub struct Reached {
+    pub at: usize,
+    pub last: usize,
+    pub operator: usize,
 }
 
+pub enum PartRead {
+    UpTo(Reached),
+    NotRead(Refusal),
+}
+
+// Whether the line stands in the table.
 pub enum LineRead {
-    HasLine(Line),
+    Complete,
     NoLine(Refusal),
 }

@@ -1,58 +1,51 @@
-// The type rule of a line.
+// The type rule of a line in the table.
 use arithmetic::Operator;
 use arithmetic::Word;
 use arithmetic::rules::I1;
 use arithmetic::rules::typed;
-use constraint::Line;
-use constraint::Operand;
-use edition::Edition;
-use store::widths::width_of;
+use store::lines::ABSENT;
+use store::lines::FIRST;
+use store::lines::OUTPUT;
+use store::lines::SECOND;
+use store::lines::TABLE_BODIES;
+use store::lines::TABLE_HEADS;
+use store::lines::THIRD;
+use store::lines::body_of;
+use store::lines::head_of;
+use store::lines::head_width;
+use store::lines::is_constant;
+use store::lines::operator_of;
 ghost use mathlib.Core.Path.{_≡_};
-ghost use Prim.Native.Nat.{_≤_};
-ghost use Rattle.edition.specs.Edition.{maxVariables};
+ghost use mathlib.Core.List.{List};
+ghost use Prim.Native.Nat.{ℕ, _<_};
+ghost use lib.ListN.{length};
+ghost use Rattle.edition.specs.Edition.{maxLines};
 ghost use Rattle.arithmetic.specs.Rules.{operandsTaken};
-ghost use Rattle.constraint.specs.TypeRules.{ruleWord, resultWidth, isConstant, constantRule, isPredicate, predicateRule, wellTyped};
-ghost use Rattle.store.specs.Tables.{unnamed};
+ghost use Rattle.constraint.specs.File.{Variable};
+ghost use Rattle.constraint.specs.TypeRules.{ruleWord, resultWidth, constantRule, isPredicate, predicateRule, wellTyped};
+ghost use Rattle.store.specs.Tables.{tableHeads, tableBodies, operandOf, headWidth, lineIn, HeadsFit};
 
 // An operand as the rules see it: no variable's value matters to them.
-fn rule_word(widths: &[u64; Edition::VARIABLES], n: usize, o: Operand) -> Word
-    requires { ⌜ n ≤ maxVariables ⌝ }
-    ensures { λ r. ⌜ r ≡ ruleWord (unnamed (now (widths .entry)) n) o ⌝ }
+fn rule_word(head: u8, body: u64) -> Word
+    ensures { λ r. ⌜ ((xs : List Variable) → ruleWord xs (operandOf head body) .width ≡ headWidth head → r ≡ ruleWord xs (operandOf head body)) ⌝ }
 {
-    match o {
-        Operand::Absent => Word { width: 0, value: 0 },
-        Operand::Var(i) => Word {
-            width: width_of(widths, n, i),
-            value: 0,
-        },
-        Operand::Const(w) => w,
+    let width = head_width(head);
+    if is_constant(head) {
+        Word { width, value: body }
+    } else {
+        Word { width, value: 0 }
     }
 }
 
-fn result_width(widths: &[u64; Edition::VARIABLES], n: usize, o: Operand) -> u64
-    requires { ⌜ n ≤ maxVariables ⌝ }
-    ensures { λ r. ⌜ r ≡ resultWidth (unnamed (now (widths .entry)) n) o ⌝ }
+fn result_width(head: u8) -> u64
+    ensures { λ r. ⌜ ((xs : List Variable) (body : ℕ) → ruleWord xs (operandOf head body) .width ≡ headWidth head → r ≡ resultWidth xs (operandOf head body)) ⌝ }
 {
-    match o {
-        Operand::Absent => I1,
-        Operand::Var(i) => width_of(widths, n, i),
-        Operand::Const(w) => w.width,
-    }
-}
-
-fn is_constant(o: Operand) -> bool
-    ensures { λ r. ⌜ r ≡ isConstant o ⌝ }
-{
-    match o {
-        Operand::Absent => false,
-        Operand::Var(_) => false,
-        Operand::Const(_) => true,
-    }
+    if head == ABSENT { I1 } else { head_width(head) }
 }
 
 // The last two operands of `extr` are constants.
-fn constants_hold(op: Operator, b: Operand, c: Operand) -> bool
-    ensures { λ r. ⌜ r ≡ constantRule op b c ⌝ }
+fn constants_hold(op: Operator, b: u8, c: u8) -> bool
+    ensures { λ r. ⌜ ((x y : ℕ) → r ≡ constantRule op (operandOf b x) (operandOf c y)) ⌝ }
 {
     match op {
         Operator::Extr => is_constant(b) & is_constant(c),
@@ -93,30 +86,33 @@ fn is_predicate(op: Operator, a: Word, b: Word, c: Word) -> bool
     }
 }
 
-fn predicate_holds(output: Operand, op: Operator, a: Word, b: Word, c: Word) -> bool
-    ensures { λ r. ⌜ r ≡ predicateRule output op (operandsTaken op a b c) ⌝ }
+fn predicate_holds(output: u8, op: Operator, a: Word, b: Word, c: Word) -> bool
+    ensures { λ r. ⌜ ((body : ℕ) → r ≡ predicateRule (operandOf output body) op (operandsTaken op a b c)) ⌝ }
 {
-    match output {
-        Operand::Absent => is_predicate(op, a, b, c),
-        Operand::Var(_) => true,
-        Operand::Const(_) => true,
+    if output == ABSENT {
+        is_predicate(op, a, b, c)
+    } else {
+        true
     }
 }
 
-// Whether a line keeps its type rule, of n variables with these widths.
-pub(crate) fn well_typed(widths: &[u64; Edition::VARIABLES], n: usize, line: Line) -> bool
-    requires { ⌜ n ≤ maxVariables ⌝ }
-    ensures { λ r. ⌜ r ≡ wellTyped (unnamed (now (widths .entry)) n) line ⌝ }
+// Whether line m keeps its type rule.
+pub(crate) fn well_typed<'a>(
+    heads: &'a [u8; TABLE_HEADS],
+    bodies: &'a [u64; TABLE_BODIES],
+    m: usize,
+) -> bool
+    requires { ⌜ (length (now heads) ≡ tableHeads) × (length (now bodies) ≡ tableBodies) × (m < maxLines) ⌝ }
+    ensures { λ r. ⌜ ((xs : List Variable) → HeadsFit xs (now (heads .entry)) (now (bodies .entry)) m → r ≡ wellTyped xs (lineIn (now (heads .entry)) (now (bodies .entry)) m)) ⌝ }
 {
-    let op = line.operator;
-    let output = line.output;
-    let operands = line.operands;
-    let first = operands.first;
-    let second = operands.second;
-    let third = operands.third;
-    let a = rule_word(widths, n, first);
-    let b = rule_word(widths, n, second);
-    let c = rule_word(widths, n, third);
-    let k = result_width(widths, n, output);
+    let op = operator_of(heads, m);
+    let output = head_of(heads, m, OUTPUT);
+    let first = head_of(heads, m, FIRST);
+    let second = head_of(heads, m, SECOND);
+    let third = head_of(heads, m, THIRD);
+    let a = rule_word(first, body_of(bodies, m, FIRST));
+    let b = rule_word(second, body_of(bodies, m, SECOND));
+    let c = rule_word(third, body_of(bodies, m, THIRD));
+    let k = result_width(output);
     typed(op, k, a, b, c) & constants_hold(op, second, third) & predicate_holds(output, op, a, b, c)
 }

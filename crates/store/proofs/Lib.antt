@@ -1,4 +1,5 @@
 -- Laws that belong to no one function.
 pub mod TableLaws
-pub mod WidthLaws
+pub mod LineTableLaws
+pub mod VariableTableLaws
 pub mod LookupLaws

@@ -1,5 +1,5 @@
 -- The variable of a name: found from one entry of the tables to the next, and used. Assumes nothing.
-use Prim.Native.Nat.{ℕ, zero, suc, _+_, _-_, _<_}
+use Prim.Native.Nat.{ℕ, zero, suc, _+_, _<_}
 use mathlib.Core.Path.{_≡_, refl, ap, _∙_}
 use mathlib.Core.Bool.{Bool, true, false}
 use mathlib.Core.List.{List, [], _∷_}
@@ -12,7 +12,7 @@ use Rattle.refusal.proofs.ListLaws.{first-kept, first-behind}
 use Rattle.text.specs.Bytes.{same}
 use Rattle.text.proofs.NameLaws.{same-true}
 use Rattle.constraint.specs.File.{Variable, variableNamed}
-use Rattle.store.specs.Tables.{tabulate, variableIn, variablesIn}
+use Rattle.store.specs.Tables.{tabulate, nameStart, nameLength, variableOf, variableIn, variablesIn}
 use Rattle.constraint.specs.Sound.{Distinct}
 use Rattle.store.proofs.TableLaws.{length-tabulate, getD-tabulate, tabulate-suc}
 use Rattle.constraint.proofs.VariableLaws.{first-named}
@@ -36,29 +36,29 @@ module _ {A : Type 0} (test : A → Bool) (f : ℕ → A) (i : ℕ) (e : firstFr
     | no p ↦ let q : suc n ≡ i + 1 = omega arith in ap (λ m. firstFrom test 0 (tabulate f m)) q ∙ next ∙ rw k
   ]
 
-pub variables-length : (file starts lens widths : List ℕ) (n : ℕ) → length (variablesIn file starts lens widths n) ≡ n
+pub variables-length : (file table : List ℕ) (n : ℕ) → length (variablesIn file table n) ≡ n
 unfolding variablesIn
-variables-length file starts lens widths = length-tabulate (variableIn file starts lens widths)
+variables-length file table = length-tabulate (variableIn file table)
 
-module _ (name file starts lens widths : List ℕ) where
-  pub named-none : variableNamed name (variablesIn file starts lens widths 0) ≡ none
+module _ (name file table : List ℕ) where
+  pub named-none : variableNamed name (variablesIn file table 0) ≡ none
   unfolding variableNamed variablesIn tabulate firstFrom
   named-none = refl
 
   -- none of the first i variables has the name
-  module _ (i : ℕ) (e : variableNamed name (variablesIn file starts lens widths i) ≡ none) where
-    pub named-later : same (take (getD lens i 0) (drop (getD starts i 0) file)) name ≡ false → variableNamed name (variablesIn file starts lens widths (i + 1)) ≡ none
-    unfolding variableNamed variablesIn variableIn
-    named-later = none-yet (λ x. same (x .name) name) (variableIn file starts lens widths) i e
+  module _ (i : ℕ) (e : variableNamed name (variablesIn file table i) ≡ none) where
+    pub named-later : same (take (nameLength (getD table i 0)) (drop (nameStart (getD table i 0)) file)) name ≡ false → variableNamed name (variablesIn file table (i + 1)) ≡ none
+    unfolding variableNamed variablesIn variableIn variableOf
+    named-later = none-yet (λ x. same (x .name) name) (variableIn file table) i e
 
-    pub named-here : same (take (getD lens i 0) (drop (getD starts i 0) file)) name ≡ true → (n : ℕ) → i < n → variableNamed name (variablesIn file starts lens widths n) ≡ some i
-    unfolding variableNamed variablesIn variableIn
-    named-here = first-here (λ x. same (x .name) name) (variableIn file starts lens widths) i e
+    pub named-here : same (take (nameLength (getD table i 0)) (drop (nameStart (getD table i 0)) file)) name ≡ true → (n : ℕ) → i < n → variableNamed name (variablesIn file table n) ≡ some i
+    unfolding variableNamed variablesIn variableIn variableOf
+    named-here = first-here (λ x. same (x .name) name) (variableIn file table) i e
 
-pub named-guess : (name file starts lens widths : List ℕ) (n i : ℕ) → Distinct (variablesIn file starts lens widths n) → i < n → same (take (getD lens i 0) (drop (getD starts i 0) file)) name ≡ true → variableNamed name (variablesIn file starts lens widths n) ≡ some i
-unfolding variableNamed variablesIn variableIn
-named-guess name file starts lens widths n i u h e =
+pub named-guess : (name file table : List ℕ) (n i : ℕ) → Distinct (variablesIn file table n) → i < n → same (take (nameLength (getD table i 0)) (drop (nameStart (getD table i 0)) file)) name ≡ true → variableNamed name (variablesIn file table n) ≡ some i
+unfolding variableNamed variablesIn variableIn variableOf
+named-guess name file table n i u h e =
     let d : Variable = record { name = []; width = 0 } in
     let q : 0 + i ≡ i = omega arith in
-    let e₂ : getD (tabulate (variableIn file starts lens widths) n) i d .name ≡ name = ap (λ (x : Variable). x .name) (getD-tabulate (variableIn file starts lens widths) n i d h) ∙ same-true _ name e in
-    first-named name d (tabulate (variableIn file starts lens widths) n) 0 i u (omega (arith, length-tabulate (variableIn file starts lens widths) n)) e₂ ∙ ap some q
+    let e₂ : getD (tabulate (variableIn file table) n) i d .name ≡ name = ap (λ (x : Variable). x .name) (getD-tabulate (variableIn file table) n i d h) ∙ same-true _ name e in
+    first-named name d (tabulate (variableIn file table) n) 0 i u (omega (arith, length-tabulate (variableIn file table) n)) e₂ ∙ ap some q

@@ -4,7 +4,7 @@ use refusal::Refusal;
 
 pub mod lines;
 pub mod names;
-pub mod widths;
+pub mod variables;
 
 // Where a name stands among the variables.
 pub enum Found {
@@ -28,6 +28,16 @@ pub struct Progress {
     pub expectation: Expectation,
     pub variables: usize,
     pub lines: usize,
+}
+
+// What a line adds to the file: variables by how many there are with them.
+pub enum Added {
+    NoPart,
+    VersionPart(Edition),
+    ExpectationPart(u64),
+    VariablesPart(usize),
+    LinePart,
+    Fault(Refusal),
 }
 
 pub enum Step {

@@ -1,146 +1,137 @@
-// The line table: nine words to a line. No other module knows how a line is laid out.
+// The line table, in two parts: the heads, with the operator's number in front of them, and the bodies. No other module knows how a line is laid out.
 use arithmetic::Operator;
-use arithmetic::Word;
 use arithmetic::numbering::operator_number;
 use arithmetic::numbering::operator_numbered;
-use constraint::Line;
-use constraint::Operand;
 use edition::Edition;
 ghost use mathlib.Core.Path.{_≡_};
-ghost use mathlib.Core.List.{[], _∷_, _++_};
+ghost use mathlib.Core.Bool.{_&&_};
 ghost use Prim.Native.Nat.{_+_, _<_};
+ghost use lib.Dec.{leb, ltb};
 ghost use lib.ListN.{length};
 ghost use Rattle.edition.specs.Edition.{maxLines};
-ghost use Rattle.store.specs.Tables.{tableWords, operandOf, operandIn, lineIn, linesIn, Storable, StorableLine};
-ghost use Rattle.store.specs.OperandWords.{headOf, bodyOf, withOperand};
+ghost use Rattle.arithmetic.specs.Numbering.{operatorNumbered};
+ghost use Rattle.store.specs.Tables.{lineBodies, tableHeads, tableBodies, variableMark, headWidth, headAt, bodyAt, operatorIn, withOperator, withHead, withBody, withoutOperands};
 
-// The words of a line.
-const LINE_WORDS: usize = 9;
+// The heads of a line with its operator's number, and its bodies.
+const LINE_HEADS: usize = 5;
 
-pub const TABLE_WORDS: usize = Edition::LINES * LINE_WORDS;
+const LINE_BODIES: usize = 4;
 
-// Where the words of the output and of the operands stand in a line, behind the operator's.
-const OUTPUT: usize = 1;
+pub const TABLE_HEADS: usize = Edition::LINES * LINE_HEADS;
 
-const FIRST: usize = 3;
+pub const TABLE_BODIES: usize = Edition::LINES * LINE_BODIES;
 
-const SECOND: usize = 5;
+// The slots of a line.
+pub const OUTPUT: usize = 0;
 
-const THIRD: usize = 7;
+pub const FIRST: usize = 1;
 
-// What the first word of an operand says.
-const ABSENT: u64 = 0;
+pub const SECOND: usize = 2;
 
-const VARIABLE: u64 = 1;
+pub const THIRD: usize = 3;
 
-const CONSTANT: u64 = 2;
+// Above every width: what a variable's head has beyond its width.
+pub(crate) const VARIABLE_MARK: u8 = 128;
 
-fn head(o: Operand) -> u64
-    requires { ⌜ Storable o ⌝ }
-    ensures { λ r. ⌜ r ≡ headOf o ⌝ }
+// The head where no operand is.
+pub const ABSENT: u8 = 0;
+
+// The head of a constant of this width, and of a variable.
+pub fn constant_head(width: u64) -> u8
+    ensures { λ r. ⌜ r ≡ headWidth width ⌝ }
 {
-    match o {
-        Operand::Absent => ABSENT,
-        Operand::Var(_) => VARIABLE,
-        Operand::Const(w) => w.width + CONSTANT,
-    }
+    (width % VARIABLE_MARK as u64) as u8
 }
 
-fn body(o: Operand) -> u64
-    ensures { λ r. ⌜ r ≡ bodyOf o ⌝ }
+pub fn variable_head(width: u64) -> u8
+    ensures { λ r. ⌜ r ≡ variableMark + headWidth width ⌝ }
 {
-    match o {
-        Operand::Absent => 0,
-        Operand::Var(i) => i as u64,
-        Operand::Const(w) => w.value,
-    }
+    VARIABLE_MARK + constant_head(width)
 }
 
-// The operand of two words.
-fn operand(head: u64, body: u64) -> Operand
-    ensures { λ r. ⌜ r ≡ operandOf head body ⌝ }
+// Whether a head is a variable's, or a constant's.
+pub fn is_variable(head: u8) -> bool
+    ensures { λ r. ⌜ r ≡ leb variableMark head ⌝ }
 {
-    if head == ABSENT {
-        return Operand::Absent;
-    }
-    if head == VARIABLE {
-        return Operand::Var(body as usize);
-    }
-    Operand::Const(Word {
-        width: head - CONSTANT,
-        value: body,
-    })
+    VARIABLE_MARK <= head
 }
 
-fn store_operand(table: &mut [u64; TABLE_WORDS], i: usize, o: Operand)
-    requires { ⌜ (length (now table) ≡ tableWords) × (i + 1 < tableWords) × Storable o ⌝ }
-    ensures { λ _. ⌜ (length (now (table .exit)) ≡ tableWords) × (now (table .exit) ≡ withOperand (now (table .entry)) i o) ⌝ }
+pub fn is_constant(head: u8) -> bool
+    ensures { λ r. ⌜ r ≡ (ltb 0 head && ltb head variableMark) ⌝ }
 {
-    table[i] = head(o);
-    let next = i + 1;
-    table[next] = body(o);
+    (ABSENT < head) & (head < VARIABLE_MARK)
 }
 
-fn load_operand(table: &[u64; TABLE_WORDS], i: usize) -> Operand
-    requires { ⌜ (length (now table) ≡ tableWords) × (i + 1 < tableWords) ⌝ }
-    ensures { λ r. ⌜ r ≡ operandIn (now (table .entry)) i ⌝ }
+// The width in a head.
+pub fn head_width(head: u8) -> u64
+    ensures { λ r. ⌜ r ≡ headWidth head ⌝ }
 {
-    let next = i + 1;
-    operand(table[i], table[next])
+    (head % VARIABLE_MARK) as u64
 }
 
-// Puts a line at place n, behind the lines that are held.
-pub fn store_line(table: &mut [u64; TABLE_WORDS], n: usize, line: Line)
-    requires { ⌜ (length (now table) ≡ tableWords) × (n < maxLines) × StorableLine line ⌝ }
-    ensures { λ _. ⌜ (length (now (table .exit)) ≡ tableWords) × (linesIn (now (table .exit)) (n + 1) ≡ linesIn (now (table .entry)) n ++ (line ∷ [])) ⌝ }
+fn operator_by(number: u8) -> Operator
+    ensures { λ r. ⌜ r ≡ operatorNumbered number ⌝ }
 {
-    let i = n * LINE_WORDS;
-    let operands = line.operands;
-    let op = line.operator;
-    table[i] = operator_number(op);
-    let output = line.output;
-    store_operand(table, i + OUTPUT, output);
-    let first = operands.first;
-    store_operand(table, i + FIRST, first);
-    let second = operands.second;
-    store_operand(table, i + SECOND, second);
-    let third = operands.third;
-    store_operand(table, i + THIRD, third);
+    operator_numbered(number as u64)
 }
 
-// The parts of the line at place n.
-pub fn operator_of(table: &[u64; TABLE_WORDS], n: usize) -> Operator
-    requires { ⌜ (length (now table) ≡ tableWords) × (n < maxLines) ⌝ }
-    ensures { λ r. ⌜ r ≡ lineIn (now (table .entry)) n .operator ⌝ }
+// The parts of line n.
+pub fn operator_of(heads: &[u8; TABLE_HEADS], n: usize) -> Operator
+    requires { ⌜ (length (now heads) ≡ tableHeads) × (n < maxLines) ⌝ }
+    ensures { λ r. ⌜ r ≡ operatorIn (now (heads .entry)) n ⌝ }
 {
-    let i = n * LINE_WORDS;
-    operator_numbered(table[i])
+    let i = n * LINE_HEADS;
+    operator_by(heads[i])
 }
 
-pub fn output_of(table: &[u64; TABLE_WORDS], n: usize) -> Operand
-    requires { ⌜ (length (now table) ≡ tableWords) × (n < maxLines) ⌝ }
-    ensures { λ r. ⌜ r ≡ lineIn (now (table .entry)) n .output ⌝ }
+pub fn head_of(heads: &[u8; TABLE_HEADS], n: usize, slot: usize) -> u8
+    requires { ⌜ (length (now heads) ≡ tableHeads) × (n < maxLines) × (slot < lineBodies) ⌝ }
+    ensures { λ r. ⌜ r ≡ headAt (now (heads .entry)) n slot ⌝ }
 {
-    load_operand(table, n * LINE_WORDS + OUTPUT)
+    let i = n * LINE_HEADS + 1 + slot;
+    heads[i]
 }
 
-pub fn first_of(table: &[u64; TABLE_WORDS], n: usize) -> Operand
-    requires { ⌜ (length (now table) ≡ tableWords) × (n < maxLines) ⌝ }
-    ensures { λ r. ⌜ r ≡ lineIn (now (table .entry)) n .operands .first ⌝ }
+pub fn body_of(bodies: &[u64; TABLE_BODIES], n: usize, slot: usize) -> u64
+    requires { ⌜ (length (now bodies) ≡ tableBodies) × (n < maxLines) × (slot < lineBodies) ⌝ }
+    ensures { λ r. ⌜ r ≡ bodyAt (now (bodies .entry)) n slot ⌝ }
 {
-    load_operand(table, n * LINE_WORDS + FIRST)
+    let i = n * LINE_BODIES + slot;
+    bodies[i]
 }
 
-pub fn second_of(table: &[u64; TABLE_WORDS], n: usize) -> Operand
-    requires { ⌜ (length (now table) ≡ tableWords) × (n < maxLines) ⌝ }
-    ensures { λ r. ⌜ r ≡ lineIn (now (table .entry)) n .operands .second ⌝ }
+// Puts the parts of line n into the table.
+pub fn put_operator(heads: &mut [u8; TABLE_HEADS], n: usize, op: Operator)
+    requires { ⌜ (length (now heads) ≡ tableHeads) × (n < maxLines) ⌝ }
+    ensures { λ _. ⌜ (length (now (heads .exit)) ≡ tableHeads) × (now (heads .exit) ≡ withOperator (now (heads .entry)) n op) ⌝ }
 {
-    load_operand(table, n * LINE_WORDS + SECOND)
+    let i = n * LINE_HEADS;
+    heads[i] = operator_number(op) as u8;
 }
 
-pub fn third_of(table: &[u64; TABLE_WORDS], n: usize) -> Operand
-    requires { ⌜ (length (now table) ≡ tableWords) × (n < maxLines) ⌝ }
-    ensures { λ r. ⌜ r ≡ lineIn (now (table .entry)) n .operands .third ⌝ }
+pub fn put_head(heads: &mut [u8; TABLE_HEADS], n: usize, slot: usize, head: u8)
+    requires { ⌜ (length (now heads) ≡ tableHeads) × (n < maxLines) × (slot < lineBodies) ⌝ }
+    ensures { λ _. ⌜ (length (now (heads .exit)) ≡ tableHeads) × (now (heads .exit) ≡ withHead (now (heads .entry)) n slot head) ⌝ }
 {
-    load_operand(table, n * LINE_WORDS + THIRD)
+    let i = n * LINE_HEADS + 1 + slot;
+    heads[i] = head;
+}
+
+pub fn put_body(bodies: &mut [u64; TABLE_BODIES], n: usize, slot: usize, body: u64)
+    requires { ⌜ (length (now bodies) ≡ tableBodies) × (n < maxLines) × (slot < lineBodies) ⌝ }
+    ensures { λ _. ⌜ (length (now (bodies .exit)) ≡ tableBodies) × (now (bodies .exit) ≡ withBody (now (bodies .entry)) n slot body) ⌝ }
+{
+    let i = n * LINE_BODIES + slot;
+    bodies[i] = body;
+}
+
+// Takes output and operands out of line n.
+pub fn clear_operands(heads: &mut [u8; TABLE_HEADS], n: usize)
+    requires { ⌜ (length (now heads) ≡ tableHeads) × (n < maxLines) ⌝ }
+    ensures { λ _. ⌜ (length (now (heads .exit)) ≡ tableHeads) × (now (heads .exit) ≡ withoutOperands (now (heads .entry)) n) ⌝ }
+{
+    put_head(heads, n, OUTPUT, ABSENT);
+    put_head(heads, n, FIRST, ABSENT);
+    put_head(heads, n, SECOND, ABSENT);
+    put_head(heads, n, THIRD, ABSENT);
 }

@@ -1,10 +1,11 @@
 // The names of the variables: looking one up.
 use super::Found;
+use super::variables::name_length;
+use super::variables::name_start;
 use edition::Edition;
 use text::compare::same_part;
 ghost use mathlib.Core.Path.{_≡_};
-ghost use mathlib.Core.List.{List};
-ghost use Prim.Native.Nat.{ℕ, _≤_, _<_};
+ghost use Prim.Native.Nat.{_≤_, _<_};
 ghost use lib.ListN.{length, drop};
 ghost use Rattle.edition.specs.Edition.{maxVariables};
 ghost use Rattle.constraint.specs.File.{variableNamed};
@@ -15,22 +16,20 @@ ghost use Rattle.store.specs.Tables.{byteValues, variablesIn, place};
 pub const BYTES: usize = 256;
 
 // The first of the n variables whose name is the bytes from `at` to the end of the text.
-pub fn lookup<'a>(
+pub fn lookup(
     file: &[u8],
-    starts: &'a [usize; Edition::VARIABLES],
-    lens: &'a [usize; Edition::VARIABLES],
+    variables: &[u64; Edition::VARIABLES],
     n: usize,
     text: &[u8],
     at: usize,
 ) -> Found
     requires { ⌜ (at ≤ length (now text)) × (n ≤ maxVariables) ⌝ }
-    ensures { λ r. ⌜ ((widths : List ℕ) → place r ≡ variableNamed (drop at (now (text .entry))) (variablesIn (now (file .entry)) (now (starts .entry)) (now (lens .entry)) widths n)) ⌝ }
+    ensures { λ r. ⌜ place r ≡ variableNamed (drop at (now (text .entry))) (variablesIn (now (file .entry)) (now (variables .entry)) n) ⌝ }
 {
     let mut i = 0;
     while i < n {
-        let start = starts[i];
-        let len = lens[i];
-        if same_part(file, start, len, text, at) {
+        let word = variables[i];
+        if same_part(file, name_start(word), name_length(word), text, at) {
             return Found::At(i);
         }
         i += 1;
@@ -42,27 +41,25 @@ pub fn lookup<'a>(
 // First comes a guess: the variable declared last among those whose names end in the same byte.
 pub fn find<'a>(
     file: &[u8],
-    starts: &'a [usize; Edition::VARIABLES],
-    lens: &'a [usize; Edition::VARIABLES],
+    variables: &'a [u64; Edition::VARIABLES],
     guesses: &'a [usize; BYTES],
     n: usize,
     text: &[u8],
     at: usize,
 ) -> Found
     requires { ⌜ (at < length (now text)) × (n ≤ maxVariables) ⌝ }
-    ensures { λ r. ⌜ ((widths : List ℕ) → Distinct (variablesIn (now (file .entry)) (now (starts .entry)) (now (lens .entry)) widths n) → place r ≡ variableNamed (drop at (now (text .entry))) (variablesIn (now (file .entry)) (now (starts .entry)) (now (lens .entry)) widths n)) ⌝ }
+    ensures { λ r. ⌜ (Distinct (variablesIn (now (file .entry)) (now (variables .entry)) n) → place r ≡ variableNamed (drop at (now (text .entry))) (variablesIn (now (file .entry)) (now (variables .entry)) n)) ⌝ }
 {
     let end = text.len() - 1;
     let key = text[end] as usize;
     let guess = guesses[key];
     if guess < n {
-        let start = starts[guess];
-        let len = lens[guess];
-        if same_part(file, start, len, text, at) {
+        let word = variables[guess];
+        if same_part(file, name_start(word), name_length(word), text, at) {
             return Found::At(guess);
         }
     }
-    lookup(file, starts, lens, n, text, at)
+    lookup(file, variables, n, text, at)
 }
 
 // Names that end as the one that stops at `end` are guessed to be variable k's.

@@ -12,16 +12,13 @@ use Rattle.refusal.specs.Result.{accepted, refused, refusal}
 use Rattle.store.specs.declared.Progress.{Progress}
 use Rattle.constraint.specs.File.{File, editionOf}
 use Rattle.constraint.specs.Read.{readFile}
-use Rattle.constraint.specs.Sound.{Each}
-use Rattle.store.specs.Tables.{linesIn}
-use Rattle.store.specs.Tables.{Store, storedVariables}
-use Rattle.store.specs.Progress.{storedFile}
-use Rattle.store.proofs.TableLaws.{lines-length}
+use Rattle.store.specs.Tables.{Store, variablesIn}
+use Rattle.store.specs.Progress.{storedFile, HeadsInUseFit}
+use Rattle.store.proofs.LineTableLaws.{lines-length}
 use Rattle.store.proofs.LookupLaws.{variables-length}
 use Rattle.constraint.proofs.SoundLaws.{accepted-is-sound}
 use Rattle.judge.specs.Judge.{freshVerdicts, overallOf}
-use Rattle.store.specs.Tables.{unnamed}
-use Rattle.judge.specs.Fitting.{Fitting}
+use Rattle.judge.specs.Fitting.{Judgeable}
 use Rattle.judge.proofs.VerdictLaws.{verdicts-length}
 use Rattle.judge.proofs.HeldLaws.{lines-fit}
 use Rattle.answer.specs.Read.{readAnswer}
@@ -61,19 +58,19 @@ module _ (constraint answer values verdicts : List ℕ) where
 -- the tables that hold a file
 module _ (bytes : List ℕ) (t : Store) (p : Progress) where
   pub variables-held : length (storedFile bytes t p .variables) ≡ p .variables
-  variables-held = variables-length bytes (t .starts) (t .lens) (t .widths) (p .variables)
+  variables-held = variables-length bytes (t .variables) (p .variables)
 
   pub lines-held : length (storedFile bytes t p .lines) ≡ p .lines
-  lines-held = lines-length (t .lines) (p .lines)
+  lines-held = lines-length (t .heads) (t .bodies) (p .lines)
 
   -- it was accepted
   module _ (e : accepted (storedFile bytes t p) ≡ readFile bytes) where
-    -- the operands of each line fit, under the row of an accepted answer
-    pub answer-fits-lines : (answer row : List ℕ) → accepted row ≡ readAnswer (storedVariables bytes t (p .variables)) answer → Each (Fitting (unnamed (t .widths) (p .variables)) row) (linesIn (t .lines) (p .lines))
-    answer-fits-lines answer row a =
+    -- each line can be judged under the row of an accepted answer
+    pub answer-fits-lines : HeadsInUseFit bytes t p → (answer row : List ℕ) → accepted row ≡ readAnswer (variablesIn bytes (t .variables) (p .variables)) answer → (k : ℕ) → k < p .lines → Judgeable row (t .heads) (t .bodies) k
+    answer-fits-lines fit answer row a =
         let f = storedFile bytes t p in
         let s = accepted-is-sound bytes f (sym e) in
-        lines-fit bytes t p row e (row-fits-answer (editionOf f) (f .variables) answer row (s .variables) (s .distinct) (sym a))
+        lines-fit bytes t p row e fit (row-fits-answer (editionOf f) (f .variables) answer row (s .variables) (s .distinct) (sym a))
 
     -- the number of lines is the file's
     pub counts-lines : (f : File) → readFile bytes ≡ accepted f → p .lines ≡ length (f .lines)
@@ -83,6 +80,6 @@ module _ (bytes : List ℕ) (t : Store) (p : Progress) where
         sym lines-held ∙ ap (λ g. length (g .lines)) y
 
 -- the entries in use, filled, and those behind them as they were
-pub tables-filled : (values verdicts : List ℕ) (f : File) (row out fresh vs : List ℕ) (n m : ℕ) → length (f .variables) ≡ n → length (f .lines) ≡ m → fresh ≡ freshVerdicts f row → out ≡ row ++ drop n values → vs ≡ fresh ++ drop m verdicts → _≡_ {A = CheckOutcome} (record { reply = Checked (overallOf (take m vs)); values = out; verdicts = vs }) (checked values verdicts (accepted (f, row)))
-tables-filled values verdicts f row out fresh vs n m l k q a b =
-    rw (a, b, q, l, k, take-at (freshVerdicts f row) (drop m verdicts) m (verdicts-length (f .variables) row (f .lines) ∙ k))
+pub tables-filled : (values verdicts : List ℕ) (f : File) (row out vs : List ℕ) (n m : ℕ) → length (f .variables) ≡ n → length (f .lines) ≡ m → out ≡ row ++ drop n values → vs ≡ freshVerdicts f row ++ drop m verdicts → _≡_ {A = CheckOutcome} (record { reply = Checked (overallOf (take m vs)); values = out; verdicts = vs }) (checked values verdicts (accepted (f, row)))
+tables-filled values verdicts f row out vs n m l k a b =
+    rw (a, b, l, k, take-at (freshVerdicts f row) (drop m verdicts) m (verdicts-length (f .variables) row (f .lines) ∙ k))

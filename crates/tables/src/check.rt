@@ -11,7 +11,8 @@ use reader::reading::read;
 use refusal::Refusal;
 use refusal::Subject;
 use store::Step;
-use store::lines::TABLE_WORDS;
+use store::lines::TABLE_BODIES;
+use store::lines::TABLE_HEADS;
 ghost use mathlib.Core.Path.{_≡_};
 ghost use Rattle.refusal.specs.Numbers.{tooShort};
 ghost use Rattle.refusal.specs.Result.{refusal as refusalOf};
@@ -39,17 +40,16 @@ pub(crate) fn check_lines(
 ) -> Judgement
     ensures { λ r. ⌜ (record { reply = replyOf r; values = now (values .exit); verdicts = now (verdicts .exit) } ≡ checkOutcome (now (constraint .entry)) (now (answer .entry)) (now (values .entry)) (now (verdicts .entry))) × CountsLines (now (constraint .entry)) r ⌝ }
 {
-    let mut starts = [0usize; Edition::VARIABLES];
-    let mut lens = [0usize; Edition::VARIABLES];
-    let mut widths = [0u64; Edition::VARIABLES];
-    let mut lines = [0u64; TABLE_WORDS];
-    match read(constraint, &mut starts, &mut lens, &mut widths, &mut lines) {
+    let mut variables = [0u64; Edition::VARIABLES];
+    let mut heads = [0u8; TABLE_HEADS];
+    let mut bodies = [0u64; TABLE_BODIES];
+    match read(constraint, &mut variables, &mut heads, &mut bodies) {
         Step::Stop(r) => Judgement::Stopped(r),
         Step::Next(p) => {
             let n = p.variables;
             let m = p.lines;
             let mut row = [0u64; Edition::VARIABLES];
-            match read_answer(constraint, &starts, &lens, &widths, n, answer, &mut row) {
+            match read_answer(constraint, &variables, n, answer, &mut row) {
                 AnswerRead::Fault(r) => Judgement::Stopped(r),
                 AnswerRead::Complete => {
                     if values.len() < n {
@@ -59,7 +59,7 @@ pub(crate) fn check_lines(
                         return too_short(Subject::Verdicts);
                     }
                     store_row(&row, n, values);
-                    judge_all(&widths, n, &lines, m, &row[..n], verdicts);
+                    judge_all(&heads, &bodies, m, &row[..n], verdicts);
                     Judgement::Done(overall(&verdicts[..m]), m)
                 }
             }

@@ -19,10 +19,10 @@ unfolding valuesLine
 line-some [] row h = let z : ⊥ = omega arith in absurd z
 line-some (x ∷ xs) row h = refl
 
-module _ (file starts lens widths : List ℕ) (n : ℕ) (row : List ℕ) where
+module _ (file table : List ℕ) (n : ℕ) (row : List ℕ) where
   -- the variables in their tables
   abbrev xs : List Variable
-  xs = variablesIn file starts lens widths n
+  xs = variablesIn file table n
 
   -- ---- the answer, and its lines
   pub answer-length : length (answerText xs row) ≡ 14 + length (valuesLine xs row)
@@ -51,7 +51,7 @@ module _ (file starts lens widths : List ℕ) (n : ℕ) (row : List ℕ) where
   -- ---- variables, and a line of values
   module _ (h : ¬ (n ≡ 0)) where
     values-some : valuesLine xs row ≡ ascii "v" ++ settingsText xs row ++ ascii "\n"
-    values-some = line-some xs row (omega (arith, variables-length file starts lens widths n))
+    values-some = line-some xs row (omega (arith, variables-length file table n))
 
     pub values-length : length (valuesLine xs row) ≡ 2 + length (settingsText xs row)
     values-length = ap length values-some ∙ omega (arith, length-append (settingsText xs row) (ascii "\n"))

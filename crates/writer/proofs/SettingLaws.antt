@@ -42,13 +42,13 @@ setting-bound file start len width v h =
     omega (arith, setting-length (take len (drop start file)) width v, digits-count v, length-take len (drop start file), length-drop start file)
 
 -- ---- the settings of the variables in their tables
-module _ (file starts lens widths row : List ℕ) where
+module _ (file table row : List ℕ) where
   -- those of the first i variables, and that of variable i
   abbrev first : ℕ → List ℕ
-  first i = settingsText (variablesIn file starts lens widths i) row
+  first i = settingsText (variablesIn file table i) row
 
   abbrev next : ℕ → List ℕ
-  next i = settingText (variableIn file starts lens widths i) (getD row i 0)
+  next i = settingText (variableIn file table i) (getD row i 0)
 
   pub settings-none : first 0 ≡ []
   unfolding settingsText variablesIn tabulate zipWith flatten
@@ -59,10 +59,10 @@ module _ (file starts lens widths row : List ℕ) where
     pub settings-more : first (i + 1) ≡ first i ++ next i
     unfolding settingsText variablesIn
     settings-more =
-        let e : length (tabulate (variableIn file starts lens widths) i) ≡ i = length-tabulate (variableIn file starts lens widths) i in
-        ap (λ xs. flatten (zipWith settingText xs row)) (tabulate-suc (variableIn file starts lens widths) i)
-        ∙ ap flatten (zip-snoc settingText 0 (tabulate (variableIn file starts lens widths) i) (variableIn file starts lens widths i) row (omega arith))
-        ∙ flatten-snoc (zipWith settingText (tabulate (variableIn file starts lens widths) i) row) _
+        let e : length (tabulate (variableIn file table) i) ≡ i = length-tabulate (variableIn file table) i in
+        ap (λ xs. flatten (zipWith settingText xs row)) (tabulate-suc (variableIn file table) i)
+        ∙ ap flatten (zip-snoc settingText 0 (tabulate (variableIn file table) i) (variableIn file table i) row (omega arith))
+        ∙ flatten-snoc (zipWith settingText (tabulate (variableIn file table) i) row) _
         ∙ rw e
 
     pub settings-more-length : length (first (i + 1)) ≡ length (first i) + length (next i)

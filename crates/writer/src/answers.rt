@@ -5,9 +5,10 @@ use printing::digit_count;
 use printing::put_byte;
 use printing::put_bytes;
 use printing::put_digits;
+use store::variables::name_length;
+use store::variables::name_start;
 use text::Span;
 ghost use mathlib.Core.Path.{_≡_};
-ghost use mathlib.Core.List.{List};
 ghost use Prim.Native.Nat.{ℕ, _+_, _≤_};
 ghost use lib.ListN.{length, take, drop};
 ghost use Rattle.edition.specs.Edition.{maxVariables, maxFileBytes};
@@ -60,87 +61,81 @@ fn setting_length(file: &[u8], start: usize, len: usize, v: u64) -> usize
 }
 
 // The settings of n variables.
-fn put_settings<'a>(
+fn put_settings(
     file: &[u8],
-    starts: &'a [usize; Edition::VARIABLES],
-    lens: &'a [usize; Edition::VARIABLES],
+    variables: &[u64; Edition::VARIABLES],
     n: usize,
     row: &[u64],
     room: &mut [u8],
     at: usize,
 ) -> usize
-    requires { ⌜ (n ≤ maxVariables) × (length (now row) ≡ n) × ((widths : List ℕ) → at + length (settingsText (variablesIn (now file) (now starts) (now lens) widths n) (now row)) ≤ length (now room)) ⌝ }
-    ensures { λ r. ⌜ ((widths : List ℕ) → Put (settingsText (variablesIn (now (file .entry)) (now (starts .entry)) (now (lens .entry)) widths n) (now (row .entry))) (now (room .entry)) at r (now (room .exit))) ⌝ }
+    requires { ⌜ (n ≤ maxVariables) × (length (now row) ≡ n) × (at + length (settingsText (variablesIn (now file) (now variables) n) (now row)) ≤ length (now room)) ⌝ }
+    ensures { λ r. ⌜ (Put (settingsText (variablesIn (now (file .entry)) (now (variables .entry)) n) (now (row .entry))) (now (room .entry)) at r (now (room .exit))) ⌝ }
 {
     let mut i = 0;
     let mut end = at;
     while i < n {
-        let start = starts[i];
-        let len = lens[i];
-        end = put_setting(file, start, len, row[i], room, end);
+        let word = variables[i];
+        end = put_setting(file, name_start(word), name_length(word), row[i], room, end);
         i += 1;
     }
     end
 }
 
-fn settings_length<'a>(
+fn settings_length(
     file: &[u8],
-    starts: &'a [usize; Edition::VARIABLES],
-    lens: &'a [usize; Edition::VARIABLES],
+    variables: &[u64; Edition::VARIABLES],
     n: usize,
     row: &[u64],
 ) -> usize
     requires { ⌜ (length (now file) ≤ maxFileBytes) × (n ≤ maxVariables) × (length (now row) ≡ n) ⌝ }
-    ensures { λ r. ⌜ ((widths : List ℕ) → r ≡ length (settingsText (variablesIn (now (file .entry)) (now (starts .entry)) (now (lens .entry)) widths n) (now (row .entry)))) × (r ≤ maxSettingsLength) ⌝ }
+    ensures { λ r. ⌜ (r ≡ length (settingsText (variablesIn (now (file .entry)) (now (variables .entry)) n) (now (row .entry)))) × (r ≤ maxSettingsLength) ⌝ }
 {
     let mut i = 0;
     let mut length = 0;
     while i < n {
-        let start = starts[i];
-        let len = lens[i];
-        length += setting_length(file, start, len, row[i]);
+        let word = variables[i];
+        length += setting_length(file, name_start(word), name_length(word), row[i]);
         i += 1;
     }
     length
 }
 
 // The line of the values, if there are variables.
-fn put_values<'a>(
+fn put_values(
     file: &[u8],
-    starts: &'a [usize; Edition::VARIABLES],
-    lens: &'a [usize; Edition::VARIABLES],
+    variables: &[u64; Edition::VARIABLES],
     n: usize,
     row: &[u64],
     room: &mut [u8],
     at: usize,
 ) -> usize
-    requires { ⌜ (n ≤ maxVariables) × (length (now row) ≡ n) × ((widths : List ℕ) → at + length (valuesLine (variablesIn (now file) (now starts) (now lens) widths n) (now row)) ≤ length (now room)) ⌝ }
-    ensures { λ r. ⌜ ((widths : List ℕ) → Put (valuesLine (variablesIn (now (file .entry)) (now (starts .entry)) (now (lens .entry)) widths n) (now (row .entry))) (now (room .entry)) at r (now (room .exit))) ⌝ }
+    requires { ⌜ (n ≤ maxVariables) × (length (now row) ≡ n) × (at + length (valuesLine (variablesIn (now file) (now variables) n) (now row)) ≤ length (now room)) ⌝ }
+    ensures { λ r. ⌜ (Put (valuesLine (variablesIn (now (file .entry)) (now (variables .entry)) n) (now (row .entry))) (now (room .entry)) at r (now (room .exit))) ⌝ }
 {
     if n == 0 {
         return at;
     }
     let first = put_byte(b'v', room, at);
-    let end = put_settings(file, starts, lens, n, row, room, first);
+    let end = put_settings(file, variables, n, row, room, first);
     put_byte(b'\n', room, end)
 }
 
 // The answer, at the front of the room.
-pub(crate) fn put_answer<'a>(
+pub(crate) fn put_answer(
     file: &[u8],
-    starts: &'a [usize; Edition::VARIABLES],
-    lens: &'a [usize; Edition::VARIABLES],
+    variables: &[u64; Edition::VARIABLES],
     n: usize,
     row: &[u64],
     room: &mut [u8],
 ) -> usize
-    requires { ⌜ (n ≤ maxVariables) × (length (now row) ≡ n) × ((widths : List ℕ) → length (answerText (variablesIn (now file) (now starts) (now lens) widths n) (now row)) ≤ length (now room)) ⌝ }
-    ensures { λ r. ⌜ ((widths : List ℕ) → Put (answerText (variablesIn (now (file .entry)) (now (starts .entry)) (now (lens .entry)) widths n) (now (row .entry))) (now (room .entry)) 0 r (now (room .exit))) ⌝ }
+    requires { ⌜ (n ≤ maxVariables) × (length (now row) ≡ n) × (length (answerText (variablesIn (now file) (now variables) n) (now row)) ≤ length (now room)) ⌝ }
+    ensures { λ r. ⌜ (Put (answerText (variablesIn (now (file .entry)) (now (variables .entry)) n) (now (row .entry))) (now (room .entry)) 0 r (now (room .exit))) ⌝ }
 {
     let word = put_bytes(b"s ", room, 0);
     let end = put_bytes(&satisfiable(), room, word);
     let values = put_byte(b'\n', room, end);
-    put_values(file, starts, lens, n, row, room, values)
+    put_values(file, variables, n, row, room, values)
 }
 
 // The length of the line `s SATISFIABLE`, and of the `v` and the line end around the settings.
@@ -148,18 +143,17 @@ const SOLUTION_LINE: usize = 14;
 
 const AROUND_SETTINGS: usize = 2;
 
-pub(crate) fn answer_length<'a>(
+pub(crate) fn answer_length(
     file: &[u8],
-    starts: &'a [usize; Edition::VARIABLES],
-    lens: &'a [usize; Edition::VARIABLES],
+    variables: &[u64; Edition::VARIABLES],
     n: usize,
     row: &[u64],
 ) -> usize
     requires { ⌜ (length (now file) ≤ maxFileBytes) × (n ≤ maxVariables) × (length (now row) ≡ n) ⌝ }
-    ensures { λ r. ⌜ ((widths : List ℕ) → r ≡ length (answerText (variablesIn (now (file .entry)) (now (starts .entry)) (now (lens .entry)) widths n) (now (row .entry)))) ⌝ }
+    ensures { λ r. ⌜ (r ≡ length (answerText (variablesIn (now (file .entry)) (now (variables .entry)) n) (now (row .entry)))) ⌝ }
 {
     if n == 0 {
         return SOLUTION_LINE;
     }
-    SOLUTION_LINE + AROUND_SETTINGS + settings_length(file, starts, lens, n, row)
+    SOLUTION_LINE + AROUND_SETTINGS + settings_length(file, variables, n, row)
 }

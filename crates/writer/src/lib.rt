@@ -11,18 +11,18 @@ use refusal::Refusal;
 use refusal::Subject;
 use store::Found;
 use store::Step;
-use store::lines::TABLE_WORDS;
+use store::lines::TABLE_BODIES;
+use store::lines::TABLE_HEADS;
 ghost use mathlib.Core.Path.{_≡_};
 ghost use mathlib.Core.List.{List};
-ghost use Prim.Native.Nat.{ℕ, _≤_};
+ghost use Prim.Native.Nat.{ℕ, _≤_, _<_};
 ghost use lib.ListN.{length};
 ghost use Rattle.edition.specs.Edition.{maxVariables, maxLines, maxFileBytes};
 ghost use Rattle.refusal.specs.Result.{refusal as refusalOf};
-ghost use Rattle.store.specs.Tables.{tableWords, linesIn, variablesIn};
-ghost use Rattle.constraint.specs.Sound.{Each};
+ghost use Rattle.constraint.specs.File.{Variable};
+ghost use Rattle.store.specs.Tables.{tableHeads, tableBodies, linesIn, variablesIn, AllHeadsFit};
 ghost use Rattle.judge.specs.Judge.{verdictsOf, overallOf};
-ghost use Rattle.store.specs.Tables.{unnamed};
-ghost use Rattle.judge.specs.Fitting.{Fitting};
+ghost use Rattle.judge.specs.Fitting.{Judgeable};
 ghost use Rattle.writer.specs.declared.WriteReply.the-variants.{Refused as TheRefused};
 ghost use Rattle.writer.specs.Write.{isSatisfied, roomFor, written, writeOutcome};
 ghost use Rattle.writer.specs.Text.{answerText};
@@ -47,17 +47,16 @@ fn refused(number: u8, subject: Subject, position: usize) -> WriteReply
 
 // Whether the first m lines hold under a row of values that fit.
 fn satisfies<'a>(
-    widths: &'a [u64; Edition::VARIABLES],
-    n: usize,
-    lines: &'a [u64; TABLE_WORDS],
+    heads: &'a [u8; TABLE_HEADS],
+    bodies: &'a [u64; TABLE_BODIES],
     m: usize,
     row: &[u64],
 ) -> bool
-    requires { ⌜ (n ≤ maxVariables) × (m ≤ maxLines) × (length (now lines) ≡ tableWords) × Each (Fitting (unnamed (now widths) n) (now row)) (linesIn (now lines) m) ⌝ }
-    ensures { λ r. ⌜ r ≡ isSatisfied (overallOf (verdictsOf (unnamed (now (widths .entry)) n) (now (row .entry)) (linesIn (now (lines .entry)) m))) ⌝ }
+    requires { ⌜ (m ≤ maxLines) × (length (now heads) ≡ tableHeads) × (length (now bodies) ≡ tableBodies) × ((k : ℕ) → k < m → Judgeable (now row) (now heads) (now bodies) k) ⌝ }
+    ensures { λ r. ⌜ ((xs : List Variable) → AllHeadsFit xs (now (heads .entry)) (now (bodies .entry)) m → r ≡ isSatisfied (overallOf (verdictsOf xs (now (row .entry)) (linesIn (now (heads .entry)) (now (bodies .entry)) m)))) ⌝ }
 {
     let mut verdicts = [0u8; Edition::LINES];
-    judge_all(widths, n, lines, m, row, &mut verdicts);
+    judge_all(heads, bodies, m, row, &mut verdicts);
     match overall(&verdicts[..m]) {
         Overall::Satisfied => true,
         Overall::Violated(_) => false,
@@ -66,22 +65,21 @@ fn satisfies<'a>(
 }
 
 // Writes the answer with a row of values, if there is room for it.
-fn write_row<'a>(
+fn write_row(
     file: &[u8],
-    starts: &'a [usize; Edition::VARIABLES],
-    lens: &'a [usize; Edition::VARIABLES],
+    variables: &[u64; Edition::VARIABLES],
     n: usize,
     row: &[u64],
     output: &mut [u8],
 ) -> WriteReply
     requires { ⌜ (length (now file) ≤ maxFileBytes) × (n ≤ maxVariables) × (length (now row) ≡ n) ⌝ }
-    ensures { λ r. ⌜ ((widths : List ℕ) → record { reply = r; output = now (output .exit) } ≡ written (now (output .entry)) (roomFor (answerText (variablesIn (now (file .entry)) (now (starts .entry)) (now (lens .entry)) widths n) (now (row .entry))) (length (now (output .entry))))) ⌝ }
+    ensures { λ r. ⌜ (record { reply = r; output = now (output .exit) } ≡ written (now (output .entry)) (roomFor (answerText (variablesIn (now (file .entry)) (now (variables .entry)) n) (now (row .entry))) (length (now (output .entry))))) ⌝ }
 {
-    let length = answer_length(file, starts, lens, n, row);
+    let length = answer_length(file, variables, n, row);
     if output.len() < length {
         return refused(Refusal::TOO_SHORT, Subject::Output, 0);
     }
-    put_answer(file, starts, lens, n, row, output);
+    put_answer(file, variables, n, row, output);
     WriteReply::Written(length)
 }
 
@@ -89,23 +87,22 @@ fn write_row<'a>(
 pub fn write(constraint: &[u8], values: &[u64], output: &mut [u8]) -> WriteReply
     ensures { λ r. ⌜ record { reply = r; output = now (output .exit) } ≡ writeOutcome (now (constraint .entry)) (now (values .entry)) (now (output .entry)) ⌝ }
 {
-    let mut starts = [0usize; Edition::VARIABLES];
-    let mut lens = [0usize; Edition::VARIABLES];
-    let mut widths = [0u64; Edition::VARIABLES];
-    let mut lines = [0u64; TABLE_WORDS];
-    match read(constraint, &mut starts, &mut lens, &mut widths, &mut lines) {
+    let mut variables = [0u64; Edition::VARIABLES];
+    let mut heads = [0u8; TABLE_HEADS];
+    let mut bodies = [0u64; TABLE_BODIES];
+    match read(constraint, &mut variables, &mut heads, &mut bodies) {
         Step::Stop(r) => WriteReply::Refused(r),
         Step::Next(p) => {
             let n = p.variables;
             if values.len() < n {
                 return refused(Refusal::TOO_SHORT, Subject::Values, 0);
             }
-            match first_unfit(&widths, n, values) {
+            match first_unfit(&variables, n, values) {
                 Found::At(i) => refused(Refusal::HELD_DOES_NOT_FIT, Subject::Values, i),
                 Found::Nowhere => {
                     let row = &values[..n];
-                    if satisfies(&widths, n, &lines, p.lines, row) {
-                        write_row(constraint, &starts, &lens, n, row, output)
+                    if satisfies(&heads, &bodies, p.lines, row) {
+                        write_row(constraint, &variables, n, row, output)
                     } else {
                         refused(Refusal::NOT_SATISFIED, Subject::Values, 0)
                     }

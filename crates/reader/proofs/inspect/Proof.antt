@@ -18,7 +18,7 @@ returns : tie.Need-returns
 returns c = ap inspected (rw (c .before .r .given .1) at (c .before .before .before .read .ensures .0))
 
 returns-2 : tie.Need-returns-2
-returns-2 c = counts-are (c .before .before .before .before .before .before .before .before .before .args .file .now) _ (c .before .p .given .0 .0) ∙ ap inspected (rw (c .before .p .given .1) at (c .before .before .before .read .ensures .0))
+returns-2 c = counts-are (c .before .before .before .before .before .before .before .before .args .file .now) _ (c .before .p .given .0 .0) ∙ ap inspected (rw (c .before .p .given .1) at (c .before .before .before .read .ensures .0))
 
 pub inspect-spec : {M : Type 1} → statement M
 inspect-spec = tie.close (tie.spec read-requires enum-known-r enum-known-p returns returns-2)

@@ -8,15 +8,14 @@ use borrow.Author.Needs.{needs}
 use Rattle.refusal.specs.Result.{accepted}
 use Rattle.constraint.specs.File.{File}
 use Rattle.constraint.specs.Read.{readFile}
-use Rattle.store.specs.Tables.{Store, storeOf}
-use Rattle.store.specs.Progress.{storedFile, InTables}
+use Rattle.store.specs.Tables.{place, Store, storeOf}
+use Rattle.store.specs.Progress.{storedFile, HeadsInUseFit, InTables}
 use Rattle.store.proofs.LookupLaws.{variables-length}
 use Rattle.judge.specs.Judge.{freshVerdicts, overallOf}
 use Rattle.judge.specs.InUse.{firstUnfit}
 use Rattle.judge.specs.Claims.{RowFits}
-use Rattle.judge.proofs.UnnamedLaws.{unfit-unnamed}
 use Rattle.judge.proofs.FitLaws.{row-fits}
-use Rattle.judge.proofs.HeldLaws.{lines-fit, fresh-held}
+use Rattle.judge.proofs.HeldLaws.{lines-fit}
 use Rattle.writer.specs.Write.{isSatisfied, written}
 use Rattle.writer.proofs.WritingLaws.{read-short, writing-constraint, writing-short, writing-unfit, writing-unsatisfied, writing-text}
 use Rattle.writer.proofs.write.Statement.{statement}
@@ -24,12 +23,12 @@ use Rattle.writer.proofs.write.Tie as tie
 
 -- ---- the file that was read
 abbrev bytes : tie.After-p → List ℕ
-bytes c = c .before .before .before .before .before .before .before .before .before .before .args .constraint .now
+bytes c = c .before .before .before .before .before .before .before .before .before .args .constraint .now
 
 abbrev tables : tie.After-p → Store
 tables c =
     let r = c .before .before .read in
-    storeOf (r .last .1 .0) (r .last .1 .1 .0) (r .last .1 .1 .1 .0) (r .last .1 .1 .1 .1 .0)
+    storeOf (r .last .1 .0) (r .last .1 .1 .0) (r .last .1 .1 .1 .0)
 
 abbrev file : tie.After-p → File
 file c = storedFile (bytes c) (tables c) (c .p .given .0 .0)
@@ -44,11 +43,14 @@ in-tables : (c : tie.After-p) → InTables (c .p .given .0 .0)
 in-tables c = rw (c .p .given .1) at (c .before .before .read .ensures .2)
 
 counted : (c : tie.After-p) → length (file c .variables) ≡ count c
-counted c = variables-length (bytes c) (tables c .starts) (tables c .lens) (tables c .widths) (count c)
+counted c = variables-length (bytes c) (tables c .variables) (count c)
+
+heads-fit : (c : tie.After-p) → HeadsInUseFit (bytes c) (tables c) (c .p .given .0 .0)
+heads-fit c = rw (c .p .given .1) at (c .before .before .read .ensures .3)
 
 -- ---- the values that fit
 abbrev values : tie.After-enum-told → List ℕ
-values c = c .before .before .before .before .before .before .before .before .before .before .before .before .before .before .before .before .args .values .now
+values c = c .before .before .before .before .before .before .before .before .before .before .before .before .before .before .before .args .values .now
 
 abbrev reached : tie.After-enum-told → tie.After-p
 reached c = c .before .before .before .before .before .before
@@ -59,7 +61,7 @@ row c = take (count (reached c)) (values c)
 unfit : (c : tie.After-enum-told) → none ≡ firstUnfit (file (reached c) .variables) (row c)
 unfit c =
     let p = reached c in
-    (rw (c .enum-told .given .1) at (c .before .before .first-unfit .ensures)) ∙ sym (unfit-unnamed (bytes p) (tables p .starts) (tables p .lens) (tables p .widths) (count p) (row c))
+    ap place (sym (c .enum-told .given .1)) ∙ c .before .before .first-unfit .ensures (bytes p)
 
 room : (c : tie.After-enum-told) → count (reached c) ≤ length (values c)
 room c = c .before .before .before .before .if1 .left
@@ -74,7 +76,7 @@ satisfied : (c : tie.After-satisfies) → c .satisfies .result ≡ isSatisfied (
 satisfied c =
     let e = c .before .before .before .before in
     let p = reached e in
-    c .satisfies .ensures ∙ ap (λ (vs : List ℕ). isSatisfied (overallOf vs)) (fresh-held (bytes p) (tables p) (p .p .given .0 .0) (row e))
+    c .satisfies .ensures (file p .variables) (heads-fit p)
 
 read-requires : tie.Need-read-requires
 read-requires c κs = search needs
@@ -89,7 +91,8 @@ refused-requires : tie.Need-refused-requires
 refused-requires c κs = search needs
 
 returns : tie.Need-returns
-returns c = let a = c .before .before .before .before .before .before .before .before .before .before .before .before .before .args in
+returns c =
+    let a = c .before .before .before .before .before .before .before .before .before .before .before .before .args in
     let p = c .before .before .before in
     rw (c .refused .ensures) (ap (written (a .output .now)) (writing-short (a .constraint .now) (a .values .now) (a .output .now) (file p) (file-read p) (count p) (counted p) (c .before .if1 .taken)))
 
@@ -112,11 +115,12 @@ satisfies-requires : tie.Need-satisfies-requires
 satisfies-requires c κs =
     let e = c .before .before .before in
     let p = reached e in
-    (in-tables p .variables, in-tables p .lines, p .before .before .read .ensures .1 .lines, lines-fit (bytes p) (tables p) (p .p .given .0 .0) (row e) (file-read p) (fits e))
+    let t = p .before .before .read .ensures .1 in
+    (in-tables p .lines, t .heads, t .bodies, lines-fit (bytes p) (tables p) (p .p .given .0 .0) (row e) (file-read p) (heads-fit p) (fits e))
 
 write-row-requires : tie.Need-write-row-requires
 write-row-requires c κs =
-    let e = c .before .before .before .before .before .before .before .before in
+    let e = c .before .before .before .before .before .before .before in
     let p = reached e in
     (read-short (bytes p) (file p) (file-read p), in-tables p .variables, length-take-le (count p) (values e) (room e))
 
@@ -124,28 +128,32 @@ refused-requires-3 : tie.Need-refused-requires-3
 refused-requires-3 c κs = search needs
 
 returns-2 : tie.Need-returns-2
-returns-2 c = let a = c .before .before .before .before .before .before .before .before .before .before .before .args in
+returns-2 c =
+    let a = c .before .before .before .before .before .before .before .before .before .before .args in
     ap (written (a .output .now)) (writing-constraint (a .constraint .now) (a .values .now) (a .output .now) (c .before .r .given .0 .0) (rw (c .before .r .given .1) at (c .before .before .before .read .ensures .0)))
 
 returns-3 : tie.Need-returns-3
-returns-3 c = let a = c .before .before .before .before .before .before .before .before .before .before .before .before .before .before .before .before .before .before .args in
+returns-3 c =
+    let a = c .before .before .before .before .before .before .before .before .before .before .before .before .before .before .before .before .before .args in
     let p = c .before .before .before .before .before .before .before .before in
     let i = c .before .before .i .given in
-    let e = (rw (i .1) at (c .before .before .before .before .first-unfit .ensures)) ∙ sym (unfit-unnamed (bytes p) (tables p .starts) (tables p .lens) (tables p .widths) (count p) (take (count p) (a .values .now))) in
+    let e = rw (i .1) at (c .before .before .before .before .first-unfit .ensures (bytes p)) in
     rw (c .refused2 .ensures) (ap (written (a .output .now)) (writing-unfit (a .constraint .now) (a .values .now) (a .output .now) (file p) (file-read p) (count p) (counted p) (c .before .before .before .before .before .before .if1 .left) (i .0 .0) e))
 
 same-length : tie.Need-same-length
 same-length c = search needs
 
 returns-4 : tie.Need-returns-4
-returns-4 c = let a = c .before .before .before .before .before .before .before .before .before .before .before .before .before .before .before .before .before .before .before .before .before .before .before .before .before .before .before .args in
-    let p = c .before .before .before .before .before .before .before .before .before .before .before .before .before .before .before .before .before in
-    let e = c .before .before .before .before .before .before .before .before .before .before .before in
-    c .before .before .write-row .ensures (tables p .widths)
-    ∙ ap (written (a .output .now)) (writing-text (a .constraint .now) (a .values .now) (a .output .now) (file p) (file-read p) (count p) (counted p) (room e) (unfit e) (sym (c .before .before .before .before .before .before .if2 .taken) ∙ satisfied (c .before .before .before .before .before .before .before)))
+returns-4 c =
+    let a = c .before .before .before .before .before .before .before .before .before .before .before .before .before .before .before .before .before .before .before .before .before .before .before .before .before .args in
+    let p = c .before .before .before .before .before .before .before .before .before .before .before .before .before .before .before .before in
+    let e = c .before .before .before .before .before .before .before .before .before .before in
+    c .before .before .write-row .ensures
+    ∙ ap (written (a .output .now)) (writing-text (a .constraint .now) (a .values .now) (a .output .now) (file p) (file-read p) (count p) (counted p) (room e) (unfit e) (sym (c .before .before .before .before .before .if2 .taken) ∙ satisfied (c .before .before .before .before .before .before)))
 
 returns-5 : tie.Need-returns-5
-returns-5 c = let a = c .before .before .before .before .before .before .before .before .before .before .before .before .before .before .before .before .before .before .before .before .before .before .args in
+returns-5 c =
+    let a = c .before .before .before .before .before .before .before .before .before .before .before .before .before .before .before .before .before .before .before .before .before .args in
     let p = c .before .before .before .before .before .before .before .before .before .before .before .before in
     let e = c .before .before .before .before .before .before in
     rw (c .refused3 .ensures)

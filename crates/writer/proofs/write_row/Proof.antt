@@ -11,18 +11,18 @@ refused-requires : tie.Need-refused-requires
 refused-requires c κs = search needs
 
 returns : tie.Need-returns
-returns c = λ widths. answer-refused _ _ _ (c .before .before .answer-length .ensures widths) (c .before .if1 .taken) (c .refused .ensures)
+returns c = answer-refused _ _ _ (c .before .before .answer-length .ensures) (c .before .if1 .taken) (c .refused .ensures)
 
 put-answer-requires : tie.Need-put-answer-requires
 put-answer-requires c κs =
     let s = c .before .before .before .before .before .before in
-    (s .pre .1, s .pre .2, λ widths. omega (arith, c .before .before .answer-length .ensures widths))
+    (s .pre .1, s .pre .2, omega (arith, c .before .before .answer-length .ensures))
 
 same-length : tie.Need-same-length
 same-length c = search needs
 
 returns-2 : tie.Need-returns-2
-returns-2 c = λ widths. answer-written _ _ _ (c .before .before .before .before .before .answer-length .ensures widths) (c .before .before .before .before .if1 .left) (c .before .before .put-answer .ensures widths)
+returns-2 c = answer-written _ _ _ (c .before .before .before .before .before .answer-length .ensures) (c .before .before .before .before .if1 .left) (c .before .before .put-answer .ensures)
 
 pub write-row-spec : {M : Type 1} → statement M
 write-row-spec =

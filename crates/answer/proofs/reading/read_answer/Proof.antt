@@ -18,13 +18,13 @@ use Rattle.answer.proofs.reading.read_answer.Statement.{statement}
 use Rattle.answer.proofs.reading.read_answer.Tie as tie
 
 abbrev variables : tie.Start → List Variable
-variables s = variablesIn (s .args .file .now) (s .args .starts .now) (s .args .lens .now) (s .args .widths .now) (s .args .n)
+variables s = variablesIn (s .args .file .now) (s .args .variables .now) (s .args .n)
 
 -- what was read, from nothing that is set
-lines-read : (c : tie.After-read-lines) → let s = c .before .before .before .before .before .before in answerStep (entriesIn (c .read-lines .last .1 .1 .1 .1 .1 .1 .0) (c .read-lines .last .1 .1 .1 .1 .1 .1 .1 .0) (s .args .n)) (c .read-lines .result) ≡ readLines Answer (readAnswerLine (variables s)) (noSettings (variables s)) (textLines (s .args .answer .now))
+lines-read : (c : tie.After-read-lines) → let s = c .before .before .before .before .before .before in answerStep (entriesIn (c .read-lines .last .1 .1 .1 .1 .0) (c .read-lines .last .1 .1 .1 .1 .1 .0) (s .args .n)) (c .read-lines .result) ≡ readLines Answer (readAnswerLine (variables s)) (noSettings (variables s)) (textLines (s .args .answer .now))
 lines-read c =
     let s = c .before .before .before .before .before .before in
-    c .read-lines .ensures .0 ∙ ap (λ t. readLines Answer (readAnswerLine (variables s)) t (textLines (s .args .answer .now))) (nothing-set (s .args .file .now) (s .args .starts .now) (s .args .lens .now) (s .args .widths .now) (s .args .row .now) 256 (s .args .n) (s .pre .0))
+    c .read-lines .ensures .0 ∙ ap (λ t. readLines Answer (readAnswerLine (variables s)) t (textLines (s .args .answer .now))) (nothing-set (s .args .file .now) (s .args .variables .now) (s .args .row .now) 256 (s .args .n) (s .pre .0))
 
 refusal-requires : tie.Need-refusal-requires
 refusal-requires c κs = search needs
@@ -62,8 +62,8 @@ returns-3 c =
     let s = c .before .before .before .before .before .before .before .before .before .before .before .before .before .before in
     let r = c .before .before .before .before .before .before .before .before in
     let t = c .before .before .before .before .before .before .solved .given in
-    let vs = entriesIn (r .read-lines .last .1 .1 .1 .1 .1 .1 .0) (r .read-lines .last .1 .1 .1 .1 .1 .1 .1 .0) (s .args .n) in
-    (rw (c .refusal3 .ensures) (answer-unset (variables s) (s .args .answer .now) (c .before .before .before .before .before .before .before .before .before .before .before .if1 .left) (settingsOf (t .0 .0) vs) (rw (t .1) at (lines-read r)) (not-false (t .0 .0) (c .before .before .before .before .if2 .left)) (not-there (allSet vs) (rw (c .before .before .all-set .ensures (r .read-lines .last .1 .1 .1 .1 .1 .1 .1 .0)) at (c .before .if3 .taken)))), r .read-lines .ensures .1 .values-whole)
+    let vs = entriesIn (r .read-lines .last .1 .1 .1 .1 .0) (r .read-lines .last .1 .1 .1 .1 .1 .0) (s .args .n) in
+    (rw (c .refusal3 .ensures) (answer-unset (variables s) (s .args .answer .now) (c .before .before .before .before .before .before .before .before .before .before .before .if1 .left) (settingsOf (t .0 .0) vs) (rw (t .1) at (lines-read r)) (not-false (t .0 .0) (c .before .before .before .before .if2 .left)) (not-there (allSet vs) (rw (c .before .before .all-set .ensures (r .read-lines .last .1 .1 .1 .1 .1 .0)) at (c .before .if3 .taken)))), r .read-lines .ensures .1 .values-whole)
 
 returns-4 : tie.Need-returns-4
 returns-4 c = let s = c .before .before .before .before .before .before .before .before .before in (answer-refused (variables s) (s .args .answer .now) (c .before .before .before .before .before .before .if1 .left) (c .before .r .given .0 .0) (rw (c .before .r .given .1) at (lines-read (c .before .before .before))), c .before .before .before .read-lines .ensures .1 .values-whole)
@@ -73,8 +73,8 @@ returns-5 c =
     let s = c .before .before .before .before .before .before .before .before .before .before .before .before .before in
     let r = c .before .before .before .before .before .before .before in
     let t = c .before .before .before .before .before .solved .given in
-    let flags = r .read-lines .last .1 .1 .1 .1 .1 .1 .0 in
-    let row = r .read-lines .last .1 .1 .1 .1 .1 .1 .1 .0 in
+    let flags = r .read-lines .last .1 .1 .1 .1 .0 in
+    let row = r .read-lines .last .1 .1 .1 .1 .1 .0 in
     (answer-read (variables s) (s .args .answer .now) (c .before .before .before .before .before .before .before .before .before .before .if1 .left) (settingsOf (t .0 .0) (entriesIn flags row (s .args .n))) (rw (t .1) at (lines-read r)) (not-false (t .0 .0) (c .before .before .before .if2 .left)) (take (s .args .n) row) (all-row flags row (s .args .n) (omega (arith, r .read-lines .ensures .1 .values-whole)) (sym (c .before .all-set .ensures row) ∙ not-false (c .before .all-set .result) (c .if3 .left))), r .read-lines .ensures .1 .values-whole)
 
 pub read-answer-spec : {M : Type 1} → statement M

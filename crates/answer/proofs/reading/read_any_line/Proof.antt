@@ -12,7 +12,7 @@ use Rattle.answer.proofs.reading.read_any_line.Statement.{statement}
 use Rattle.answer.proofs.reading.read_any_line.Tie as tie
 
 abbrev variables : tie.Start → List Variable
-variables s = variablesIn (s .args .file .now) (s .args .starts .now) (s .args .lens .now) (s .args .widths .now) (s .args .n)
+variables s = variablesIn (s .args .file .now) (s .args .variables .now) (s .args .n)
 
 -- what is set before the line
 abbrev before : tie.Start → Settings

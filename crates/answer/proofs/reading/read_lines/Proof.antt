@@ -17,14 +17,14 @@ use Rattle.answer.proofs.reading.read_lines.Statement.{statement}
 use Rattle.answer.proofs.reading.read_lines.Tie as tie
 
 abbrev Inv-loop : tie.InvT-loop
-Inv-loop file starts lens widths n answer flags₀ values₀ solved₀ i₀ flags values solved i =
-    Reading Answer (readAnswerLine (variablesIn file starts lens widths n)) (settingsOf false (entriesIn flags₀ values₀ n)) answer (settingsOf solved (entriesIn flags values n)) i × SettingsSized flags values
+Inv-loop file variables n answer flags₀ values₀ solved₀ i₀ flags values solved i =
+    Reading Answer (readAnswerLine (variablesIn file variables n)) (settingsOf false (entriesIn flags₀ values₀ n)) answer (settingsOf solved (entriesIn flags values n)) i × SettingsSized flags values
 
 abbrev μ-loop : tie.MeasureT-loop
-μ-loop file starts lens widths n answer flags₀ values₀ solved₀ i₀ flags values solved i = length answer - i
+μ-loop file variables n answer flags₀ values₀ solved₀ i₀ flags values solved i = length answer - i
 
 abbrev variables : tie.Start Inv-loop μ-loop → List Variable
-variables s = variablesIn (s .args .file .now) (s .args .starts .now) (s .args .lens .now) (s .args .widths .now) (s .args .n)
+variables s = variablesIn (s .args .file .now) (s .args .variables .now) (s .args .n)
 
 -- what is set before the first line
 abbrev before : tie.Start Inv-loop μ-loop → Settings

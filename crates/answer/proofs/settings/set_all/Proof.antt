@@ -17,10 +17,10 @@ use Rattle.answer.proofs.settings.set_all.Statement.{statement}
 use Rattle.answer.proofs.settings.set_all.Tie as tie
 
 abbrev Inv-loop : tie.InvT-loop
-Inv-loop file starts lens widths n line at flags₀ values₀ i₀ flags values i = Storing (variablesIn file starts lens widths n) n line at flags₀ values₀ flags values i
+Inv-loop file variables n line at flags₀ values₀ i₀ flags values i = Storing (variablesIn file variables n) n line at flags₀ values₀ flags values i
 
 abbrev μ-loop : tie.MeasureT-loop
-μ-loop file starts lens widths n line at flags₀ values₀ i₀ flags values i = length line - i
+μ-loop file variables n line at flags₀ values₀ i₀ flags values i = length line - i
 
 -- the next token, and that it lies in the line
 tokens : (c : tie.After-t Inv-loop μ-loop) → let l = c .before .before .before .before in let line = l .before .before .before .args .line .now in let t = c .t .given .0 .0 in tokensFrom true (l .loop .i) (drop (l .loop .i) line) ≡ tokenAt (take (t .stop) line) (t .start) ∷ tokensFrom true (t .stop) (drop (t .stop) line)
@@ -37,7 +37,7 @@ below : (c : tie.After-k Inv-loop μ-loop) → c .k .given .0 .0 < c .before .be
 below c = rw (c .k .given .1) at (c .before .before .setting .ensures .1)
 
 -- what it says
-says : (c : tie.After-k Inv-loop μ-loop) → let l = c .before .before .before .before .before .before .before .before .before in let a = l .before .before .before .args in let t = c .before .before .before .before .before .t .given .0 .0 in accepted (c .k .given .0 .0, c .k .given .0 .1 .0) ≡ settingOf (variablesIn (a .file .now) (a .starts .now) (a .lens .now) (a .widths .now) (a .n)) (tokenAt (take (t .stop) (a .line .now)) (t .start))
+says : (c : tie.After-k Inv-loop μ-loop) → let l = c .before .before .before .before .before .before .before .before .before in let a = l .before .before .before .args in let t = c .before .before .before .before .before .t .given .0 .0 in accepted (c .k .given .0 .0, c .k .given .0 .1 .0) ≡ settingOf (variablesIn (a .file .now) (a .variables .now) (a .n)) (tokenAt (take (t .stop) (a .line .now)) (t .start))
 says c = rw (c .k .given .1) at (c .before .before .setting .ensures .0)
 
 loop-holds : tie.Need-loop-holds Inv-loop μ-loop

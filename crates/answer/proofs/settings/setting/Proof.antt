@@ -20,7 +20,7 @@ use Rattle.answer.proofs.settings.setting.Statement.{statement}
 use Rattle.answer.proofs.settings.setting.Tie as tie
 
 abbrev variables : tie.Start → List Variable
-variables s = variablesIn (s .args .file .now) (s .args .starts .now) (s .args .lens .now) (s .args .widths .now) (s .args .n)
+variables s = variablesIn (s .args .file .now) (s .args .variables .now) (s .args .n)
 
 -- where the `=` stands
 bounds : (c : tie.After-scan) → let s = c .before .before .before in (s .args .at ≤ c .scan .result) × (c .scan .result ≤ length (s .args .text .now))

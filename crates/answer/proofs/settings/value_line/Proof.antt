@@ -9,7 +9,7 @@ use Rattle.answer.proofs.settings.value_line.Statement.{statement}
 use Rattle.answer.proofs.settings.value_line.Tie as tie
 
 abbrev variables : tie.Start → List Variable
-variables s = variablesIn (s .args .file .now) (s .args .starts .now) (s .args .lens .now) (s .args .widths .now) (s .args .n)
+variables s = variablesIn (s .args .file .now) (s .args .variables .now) (s .args .n)
 
 refusal-requires : tie.Need-refusal-requires
 refusal-requires c κs = search needs

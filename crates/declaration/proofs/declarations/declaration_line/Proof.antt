@@ -1,34 +1,59 @@
-use Prim.Native.Nat.{ℕ}
+use Prim.Native.Nat.{ℕ, _+_}
+use mathlib.Core.Bool.{true}
+use mathlib.Core.List.{List}
+use mathlib.Core.Path.{_≡_, refl, sym, ap, _∙_}
+use native.Mathlib.Omega.{arith}
+use lib.ListN.{length, take, drop}
+use lib.Seq.{length-take-le}
+use borrow.Author.Needs.{needs}
+use borrow.Author.Tests.{eq-eqb, ne-eqb}
 use Rattle.refusal.specs.declared.Subject.the-variants.{Constraint}
 use Rattle.refusal.specs.Numbers.{tokenCount}
 use Rattle.refusal.specs.Result.{refused, refusal}
-use mathlib.Core.Path.{refl, sym, ap, _∙_}
-use native.Mathlib.Omega.{arith}
-use lib.ListN.{take}
-use lib.Seq.{length-take-le}
-use borrow.Author.Tests.{eq-eqb, ne-eqb}
+use Rattle.text.specs.Lines.{tokensFrom}
+use Rattle.text.specs.Scan.{lineAt}
+use Rattle.constraint.specs.File.{File}
+use Rattle.constraint.specs.Read.{declareAll, readDeclarations}
 use Rattle.store.specs.Tables.{storeOf}
 use Rattle.store.specs.Progress.{storedFile}
 use Rattle.declaration.proofs.HeaderLaws.{in-header}
 use Rattle.declaration.proofs.DeclareLaws.{declarations-misplaced, declarations-missing, declarations-read}
-use borrow.Author.Needs.{needs}
 use Rattle.declaration.proofs.declarations.declaration_line.Statement.{statement}
 use Rattle.declaration.proofs.declarations.declaration_line.Tie as tie
+
+-- the file before the line, with any lines in the tables
+abbrev held : tie.Start → List ℕ → List ℕ → File
+held c heads bodies = storedFile (c .args .file .now) (storeOf (c .args .variables .now) heads bodies) (c .args .p)
+
+-- the line that is cut out of the file
+abbrev line : tie.Start → List ℕ
+line c = take (c .args .stop) (c .args .file .now)
+
+cut : (c : tie.Start) → length (line c) ≡ c .args .stop
+cut c = length-take-le (c .args .stop) (c .args .file .now) (c .pre .1)
+
+-- a line of the header that has a token
+read : (c : tie.After-enum-told2) (heads bodies : List ℕ) (next : ℕ) → let s = c .before .before .before .before .before .before in let f = held s heads bodies in declareAll f (tokensFrom true (s .args .at + 1) (drop (s .args .at + 1) (line s))) ≡ readDeclarations f (lineAt (line s) (s .args .at) next)
+read c heads bodies next =
+    let s = c .before .before .before .before .before .before in
+    declarations-read (held s heads bodies) (line s) (s .args .at) next (in-header _ _ (s .args .p) ∙ eq-eqb _ 0 (c .before .before .before .before .if1 .left)) _ _ (rw (c .enum-told2 .given .1) at (c .before .before .next-token .ensures .0))
 
 refusal-requires : tie.Need-refusal-requires
 refusal-requires c κs = search needs
 
 returns : tie.Need-returns
-returns c = (λ lines next. rw (c .refusal .ensures) (declarations-misplaced (storedFile (c .before .before .before .args .file .now) (storeOf (c .before .before .before .args .starts .now) (c .before .before .before .args .lens .now) (c .before .before .before .args .widths .now) lines) (c .before .before .before .args .p)) (take (c .before .before .before .args .stop) (c .before .before .before .args .file .now)) (c .before .before .before .args .at) next (in-header (c .before .before .before .args .file .now) (storeOf (c .before .before .before .args .starts .now) (c .before .before .before .args .lens .now) (c .before .before .before .args .widths .now) lines) (c .before .before .before .args .p) ∙ ne-eqb (c .before .before .before .args .p .lines) 0 (c .before .if1 .taken))), c .before .before .before .pre .3, c .before .before .before .pre .4, c .before .before .before .pre .5, c .before .before .before .pre .6, tt)
+returns c =
+    let s = c .before .before .before in
+    (λ heads bodies next. rw (c .refusal .ensures) (declarations-misplaced (held s heads bodies) (line s) (s .args .at) next (in-header _ _ (s .args .p) ∙ ne-eqb _ 0 (c .before .if1 .taken))), s .pre .4, s .pre .5, tt)
 
 add-next : tie.Need-add-next
 add-next c = search needs
 
 slice-aggregate-next-token : tie.Need-slice-aggregate-next-token
-slice-aggregate-next-token c = sym (length-take-le (c .before .before .before .args .stop) (c .before .before .before .args .file .now) (c .before .before .before .pre .1))
+slice-aggregate-next-token c = sym (cut (c .before .before .before))
 
 next-token-requires : tie.Need-next-token-requires
-next-token-requires c κs = omega (arith, length-take-le (c .before .before .before .args .stop) (c .before .before .before .args .file .now) (c .before .before .before .pre .1))
+next-token-requires c κs = omega (arith, cut (c .before .before .before))
 
 enum-told : tie.Need-enum-told
 enum-told c = search needs
@@ -45,23 +70,23 @@ declare-all-requires c κs = search needs
 enum-known-k : tie.Need-enum-known-k
 enum-known-k c = search needs
 
-with-variables-requires : tie.Need-with-variables-requires
-with-variables-requires c κs = search needs
-
 enum-known-r : tie.Need-enum-known-r
 enum-known-r c = search needs
 
 returns-2 : tie.Need-returns-2
 returns-2 c =
-    (λ lines next. rw (c .refusal2 .ensures) (ap (λ (n : ℕ). refused (refusal Constraint tokenCount n)) (sym (length-take-le (c .before .before .before .before .before .before .before .args .stop) (c .before .before .before .before .before .before .before .args .file .now) (c .before .before .before .before .before .before .before .pre .1))) ∙ declarations-missing (storedFile (c .before .before .before .before .before .before .before .args .file .now) (storeOf (c .before .before .before .before .before .before .before .args .starts .now) (c .before .before .before .before .before .before .before .args .lens .now) (c .before .before .before .before .before .before .before .args .widths .now) lines) (c .before .before .before .before .before .before .before .args .p)) (take (c .before .before .before .before .before .before .before .args .stop) (c .before .before .before .before .before .before .before .args .file .now)) (c .before .before .before .before .before .before .before .args .at) next (in-header (c .before .before .before .before .before .before .before .args .file .now) (storeOf (c .before .before .before .before .before .before .before .args .starts .now) (c .before .before .before .before .before .before .before .args .lens .now) (c .before .before .before .before .before .before .before .args .widths .now) lines) (c .before .before .before .before .before .before .before .args .p) ∙ eq-eqb (c .before .before .before .before .before .before .before .args .p .lines) 0 (c .before .before .before .before .before .if1 .left)) (omega (arith, length-take-le (c .before .before .before .before .before .before .before .args .stop) (c .before .before .before .before .before .before .before .args .file .now) (c .before .before .before .before .before .before .before .pre .1))) (rw (c .before .enum-told .given .1) at (c .before .before .before .next-token .ensures .0))), c .before .before .before .before .before .before .before .pre .3, c .before .before .before .before .before .before .before .pre .4, c .before .before .before .before .before .before .before .pre .5, c .before .before .before .before .before .before .before .pre .6, tt)
+    let s = c .before .before .before .before .before .before .before in
+    (λ heads bodies next. rw (c .refusal2 .ensures) (ap (λ (n : ℕ). refused (refusal Constraint tokenCount n)) (sym (cut s)) ∙ declarations-missing (held s heads bodies) (line s) (s .args .at) next (in-header _ _ (s .args .p) ∙ eq-eqb _ 0 (c .before .before .before .before .before .if1 .left)) (omega (arith, cut s)) (rw (c .before .enum-told .given .1) at (c .before .before .before .next-token .ensures .0))), s .pre .4, s .pre .5, tt)
 
 returns-3 : tie.Need-returns-3
 returns-3 c =
-    (λ lines next. rw (c .with-variables .ensures) ((rw (c .before .before .k .given .1) at (c .before .before .before .before .declare-all .ensures .0 (storedFile (c .before .before .before .before .before .before .before .before .before .before .before .before .before .before .before .args .file .now) (storeOf (c .before .before .before .before .before .before .before .before .before .before .before .before .before .before .before .args .starts .now) (c .before .before .before .before .before .before .before .before .before .before .before .before .before .before .before .args .lens .now) (c .before .before .before .before .before .before .before .before .before .before .before .before .before .before .before .args .widths .now) lines) (c .before .before .before .before .before .before .before .before .before .before .before .before .before .before .before .args .p)) refl)) ∙ declarations-read (storedFile (c .before .before .before .before .before .before .before .before .before .before .before .before .before .before .before .args .file .now) (storeOf (c .before .before .before .before .before .before .before .before .before .before .before .before .before .before .before .args .starts .now) (c .before .before .before .before .before .before .before .before .before .before .before .before .before .before .before .args .lens .now) (c .before .before .before .before .before .before .before .before .before .before .before .before .before .before .before .args .widths .now) lines) (c .before .before .before .before .before .before .before .before .before .before .before .before .before .before .before .args .p)) (take (c .before .before .before .before .before .before .before .before .before .before .before .before .before .before .before .args .stop) (c .before .before .before .before .before .before .before .before .before .before .before .before .before .before .before .args .file .now)) (c .before .before .before .before .before .before .before .before .before .before .before .before .before .before .before .args .at) next (in-header (c .before .before .before .before .before .before .before .before .before .before .before .before .before .before .before .args .file .now) (storeOf (c .before .before .before .before .before .before .before .before .before .before .before .before .before .before .before .args .starts .now) (c .before .before .before .before .before .before .before .before .before .before .before .before .before .before .before .args .lens .now) (c .before .before .before .before .before .before .before .before .before .before .before .before .before .before .before .args .widths .now) lines) (c .before .before .before .before .before .before .before .before .before .before .before .before .before .before .before .args .p) ∙ eq-eqb (c .before .before .before .before .before .before .before .before .before .before .before .before .before .before .before .args .p .lines) 0 (c .before .before .before .before .before .before .before .before .before .before .before .before .before .if1 .left)) _ _ (rw (c .before .before .before .before .before .before .before .before .before .enum-told2 .given .1) at (c .before .before .before .before .before .before .before .before .before .before .before .next-token .ensures .0))), c .before .before .before .before .declare-all .ensures .1, c .before .before .before .before .declare-all .ensures .2, c .before .before .before .before .declare-all .ensures .3, c .before .before .before .before .declare-all .ensures .4, rw (c .with-variables .ensures) (record { variables = rw (c .before .before .k .given .1) at (c .before .before .before .before .declare-all .ensures .5); lines = c .before .before .before .before .before .before .before .before .before .before .before .before .before .before .before .pre .2 .lines }))
+    let d = c .before .before .before .declare-all .ensures in
+    (λ heads bodies next. (rw (c .before .k .given .1) at (d .0 (held (c .before .before .before .before .before .before .before .before .before .before .before .before) heads bodies) refl)) ∙ read (c .before .before .before .before .before .before) heads bodies next, d .1, d .2, (rw (c .before .k .given .1) at (d .3), c .before .before .before .before .before .before .before .before .before .before .if1 .left))
 
 returns-4 : tie.Need-returns-4
 returns-4 c =
-    (λ lines next. (rw (c .before .r .given .1) at (c .before .before .before .declare-all .ensures .0 (storedFile (c .before .before .before .before .before .before .before .before .before .before .before .before .before .before .args .file .now) (storeOf (c .before .before .before .before .before .before .before .before .before .before .before .before .before .before .args .starts .now) (c .before .before .before .before .before .before .before .before .before .before .before .before .before .before .args .lens .now) (c .before .before .before .before .before .before .before .before .before .before .before .before .before .before .args .widths .now) lines) (c .before .before .before .before .before .before .before .before .before .before .before .before .before .before .args .p)) refl)) ∙ declarations-read (storedFile (c .before .before .before .before .before .before .before .before .before .before .before .before .before .before .args .file .now) (storeOf (c .before .before .before .before .before .before .before .before .before .before .before .before .before .before .args .starts .now) (c .before .before .before .before .before .before .before .before .before .before .before .before .before .before .args .lens .now) (c .before .before .before .before .before .before .before .before .before .before .before .before .before .before .args .widths .now) lines) (c .before .before .before .before .before .before .before .before .before .before .before .before .before .before .args .p)) (take (c .before .before .before .before .before .before .before .before .before .before .before .before .before .before .args .stop) (c .before .before .before .before .before .before .before .before .before .before .before .before .before .before .args .file .now)) (c .before .before .before .before .before .before .before .before .before .before .before .before .before .before .args .at) next (in-header (c .before .before .before .before .before .before .before .before .before .before .before .before .before .before .args .file .now) (storeOf (c .before .before .before .before .before .before .before .before .before .before .before .before .before .before .args .starts .now) (c .before .before .before .before .before .before .before .before .before .before .before .before .before .before .args .lens .now) (c .before .before .before .before .before .before .before .before .before .before .before .before .before .before .args .widths .now) lines) (c .before .before .before .before .before .before .before .before .before .before .before .before .before .before .args .p) ∙ eq-eqb (c .before .before .before .before .before .before .before .before .before .before .before .before .before .before .args .p .lines) 0 (c .before .before .before .before .before .before .before .before .before .before .before .before .if1 .left)) _ _ (rw (c .before .before .before .before .before .before .before .before .enum-told2 .given .1) at (c .before .before .before .before .before .before .before .before .before .before .next-token .ensures .0)), c .before .before .before .declare-all .ensures .1, c .before .before .before .declare-all .ensures .2, c .before .before .before .declare-all .ensures .3, c .before .before .before .declare-all .ensures .4, tt)
+    let d = c .before .before .before .declare-all .ensures in
+    (λ heads bodies next. (rw (c .before .r .given .1) at (d .0 (held (c .before .before .before .before .before .before .before .before .before .before .before .before) heads bodies) refl)) ∙ read (c .before .before .before .before .before .before) heads bodies next, d .1, d .2, tt)
 
 pub declaration-line-spec : {M : Type 1} → statement M
 declaration-line-spec =
@@ -77,7 +102,6 @@ declaration-line-spec =
     enum-told-2
     declare-all-requires
     enum-known-k
-    with-variables-requires
     enum-known-r
     returns-2
     returns-3

@@ -16,7 +16,7 @@ use Rattle.constraint.specs.File.{Variable}
 use Rattle.constraint.specs.Read.{declare}
 use Rattle.text.specs.Scan.{tokenAt}
 use Rattle.declaration.specs.Internal.{declarationResult, newName}
-use Rattle.declaration.proofs.NewNameLaws.{declarationOf, declare-by, fits-within}
+use Rattle.declaration.proofs.NewNameLaws.{declarationOf, declare-by, fits-within, width-fits}
 use Rattle.declaration.proofs.declaring.declare.Statement.{statement}
 use Rattle.declaration.proofs.declaring.declare.Tie as tie
 
@@ -59,23 +59,26 @@ slice-aggregate-new-name : tie.Need-slice-aggregate-new-name
 slice-aggregate-new-name c = omega (arith, bounds (c .before .before .before .before .before .before .before .before))
 
 new-name-requires : tie.Need-new-name-requires
-new-name-requires c κs = let b = bounds (c .before .before .before .before .before .before .before .before) in (omega arith, search needs)
+new-name-requires c κs =
+    let k = c .before .before in
+    let b = bounds (k .before .before .before .before .before .before) in
+    (omega arith, search needs, width-fits _ _ (k .before .before .before .before .before .type-at .ensures .0) _ (k .kind .given .1))
 
 returns : tie.Need-returns
-returns c = (λ e widths. said (c .before .before .before) e _ true (c .before .before .if1 .taken) NoType (c .enum-told .given .1), tt)
+returns c = (λ e. said (c .before .before .before) e _ true (c .before .before .if1 .taken) NoType (c .enum-told .given .1), tt)
 
 returns-2 : tie.Need-returns-2
-returns-2 c = (λ e widths. said (c .before .before .before) e _ true (c .before .before .if1 .taken) NoWidth (c .enum-told2 .given .1), tt)
+returns-2 c = (λ e. said (c .before .before .before) e _ true (c .before .before .if1 .taken) NoWidth (c .enum-told2 .given .1), tt)
 
 returns-3 : tie.Need-returns-3
 returns-3 c =
     let k = c .before .before .before in
     let n = k .before .before .before in
     let b = bounds (n .before .before .before) in
-    (λ e widths. ap (declarationResult _) (c .new-name .ensures .0 e widths) ∙ said n e _ true (k .before .before .if1 .taken) (Width _) (k .kind .given .1), fits-within (c .new-name .result) _ _ _ _ (omega arith) (c .new-name .ensures .1))
+    (λ e. ap (declarationResult _) (c .new-name .ensures .0 e) ∙ said n e _ true (k .before .before .if1 .taken) (Width _) (k .kind .given .1), fits-within (c .new-name .result) _ _ _ _ (omega arith) (c .new-name .ensures .1))
 
 returns-4 : tie.Need-returns-4
-returns-4 c = (λ e widths. said (c .before) e _ false (c .if1 .left) _ refl, tt)
+returns-4 c = (λ e. said (c .before) e _ false (c .if1 .left) _ refl, tt)
 
 pub declare-spec : {M : Type 1} → statement M
 declare-spec =

@@ -13,12 +13,12 @@ sub-len c = search needs
 returns : tie.Need-returns
 returns c =
     let a = c .before .before .before .args in
-    (λ e widths. new-long e _ (a .text .now) (a .at) (a .k) _ (variables-length _ _ _ widths _) (c .if1 .taken), tt)
+    (λ e. new-long e _ (a .text .now) (a .at) (a .k) _ (variables-length _ _ _) (c .if1 .taken), tt)
 
 returns-2 : tie.Need-returns-2
 returns-2 c =
     let a = c .before .before .before .before .args in
-    (λ e widths. new-full e _ (a .text .now) (a .at) (a .k) _ (variables-length _ _ _ widths _) (c .before .if1 .left) (c .if2 .taken), tt)
+    (λ e. new-full e _ (a .text .now) (a .at) (a .k) _ (variables-length _ _ _) (c .before .if1 .left) (c .if2 .taken), tt)
 
 is-reserved-requires : tie.Need-is-reserved-requires
 is-reserved-requires c κs = search needs
@@ -27,7 +27,7 @@ returns-3 : tie.Need-returns-3
 returns-3 c =
     let s = c .before .before in
     let a = s .before .before .before .before .args in
-    (λ e widths. new-reserved e _ (a .text .now) (a .at) (a .k) _ (variables-length _ _ _ widths _) (s .before .if1 .left) (s .if2 .left) (sym (c .before .is-reserved .ensures e) ∙ c .if3 .taken), tt)
+    (λ e. new-reserved e _ (a .text .now) (a .at) (a .k) _ (variables-length _ _ _) (s .before .if1 .left) (s .if2 .left) (sym (c .before .is-reserved .ensures e) ∙ c .if3 .taken), tt)
 
 lookup-requires : tie.Need-lookup-requires
 lookup-requires c κs = search needs
@@ -43,14 +43,14 @@ returns-4 c =
     let l = c .before .before in
     let s = l .before .before .before in
     let a = s .before .before .before .before .args in
-    (λ e widths. new-declared e _ (a .text .now) (a .at) (a .k) _ (variables-length _ _ _ widths _) (s .before .if1 .left) (s .if2 .left) (sym (l .before .before .is-reserved .ensures e) ∙ l .before .if3 .left) _ (ap place (sym (c .enum-told .given .1)) ∙ l .lookup .ensures widths), tt)
+    (λ e. new-declared e _ (a .text .now) (a .at) (a .k) _ (variables-length _ _ _) (s .before .if1 .left) (s .if2 .left) (sym (l .before .before .is-reserved .ensures e) ∙ l .before .if3 .left) _ (ap place (sym (c .enum-told .given .1)) ∙ l .lookup .ensures), tt)
 
 returns-5 : tie.Need-returns-5
 returns-5 c =
     let l = c .before .before in
     let s = l .before .before .before in
     let a = s .before .before .before .before .args in
-    (λ e widths. new-fresh e _ (a .text .now) (a .at) (a .k) _ (variables-length _ _ _ widths _) (s .before .if1 .left) (s .if2 .left) (sym (l .before .before .is-reserved .ensures e) ∙ l .before .if3 .left) (ap place (sym (c .enum-told2 .given .1)) ∙ l .lookup .ensures widths), search needs)
+    (λ e. new-fresh e _ (a .text .now) (a .at) (a .k) _ (variables-length _ _ _) (s .before .if1 .left) (s .if2 .left) (sym (l .before .before .is-reserved .ensures e) ∙ l .before .if3 .left) (ap place (sym (c .enum-told2 .given .1)) ∙ l .lookup .ensures), search needs)
 
 pub new-name-spec : {M : Type 1} → statement M
 new-name-spec =

@@ -15,10 +15,10 @@ enum-told : tie.Need-enum-told
 enum-told c = search needs
 
 returns : tie.Need-returns
-returns c = (λ bytes t. rw (c .before .before .before .before .next-token .ensures .0, c .before .before .t .given .1, c .refusal .ensures), λ h. tt)
+returns c = (λ bytes t p. rw (c .before .before .before .before .next-token .ensures .0, c .before .before .t .given .1, c .refusal .ensures), λ h. tt)
 
 returns-2 : tie.Need-returns-2
-returns-2 c = (λ bytes t. rw (c .before .before .next-token .ensures .0, c .enum-told .given .1), λ h. h)
+returns-2 c = (λ bytes t p. rw (c .before .before .next-token .ensures .0, c .enum-told .given .1), λ h. h)
 
 pub unless-more-spec : {M : Type 1} → statement M
 unless-more-spec =

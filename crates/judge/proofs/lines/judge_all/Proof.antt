@@ -1,32 +1,32 @@
 -- `judge_all` meets its contract. The loop's invariant: the first i verdicts are put down, and those behind them are as they were.
 use Prim.Native.Nat.{_-_, _≤_}
 use mathlib.Core.Path.{_≡_, refl, _∙_}
-use mathlib.Core.List.{_++_}
+use mathlib.Core.List.{List, _++_}
 use native.Mathlib.Omega.{arith}
 use lib.ListN.{length, drop, length-set}
 use borrow.Author.Needs.{needs}
-use Rattle.store.specs.Tables.{tabulate, linesIn}
+use Rattle.constraint.specs.File.{Variable}
+use Rattle.store.specs.Tables.{tabulate, linesIn, AllHeadsFit}
 use Rattle.judge.specs.Judge.{verdictsOf}
-use Rattle.store.specs.Tables.{unnamed}
-use Rattle.judge.specs.Fitting.{Fitting}
-use Rattle.judge.proofs.VerdictLaws.{each-line, verdict-put}
+use Rattle.judge.proofs.VerdictLaws.{verdict-put}
 use Rattle.judge.proofs.lines.judge_all.Statement.{statement}
 use Rattle.judge.proofs.lines.judge_all.Tie as tie
 
 abbrev Inv-loop : tie.InvT-loop
-Inv-loop widths n lines m row verdicts₀ i₀ verdicts i = (i ≤ m) × (length verdicts ≡ length verdicts₀) × (verdicts ≡ verdictsOf (unnamed widths n) row (linesIn lines i) ++ drop i verdicts₀)
+Inv-loop heads bodies m row verdicts₀ i₀ verdicts i =
+    (i ≤ m) × (length verdicts ≡ length verdicts₀) × ((xs : List Variable) → AllHeadsFit xs heads bodies m → verdicts ≡ verdictsOf xs row (linesIn heads bodies i) ++ drop i verdicts₀)
 
 abbrev μ-loop : tie.MeasureT-loop
-μ-loop widths n lines m row verdicts₀ i₀ verdicts i = m - i
+μ-loop heads bodies m row verdicts₀ i₀ verdicts i = m - i
 
 loop-holds : tie.Need-loop-holds Inv-loop μ-loop
 unfolding verdictsOf linesIn tabulate
-loop-holds c = (search needs, refl, refl)
+loop-holds c = (search needs, refl, λ xs f. refl)
 
 judge-line-requires : tie.Need-judge-line-requires Inv-loop μ-loop
 judge-line-requires c κs =
     let s = c .before .before .before .before in
-    (s .pre .0, s .pre .2, omega arith, each-line (Fitting _ _) _ _ _ (s .pre .4) (c .loop-test .taken))
+    (s .pre .1, s .pre .2, omega arith, s .pre .4 _ (c .loop-test .taken))
 
 slice-write-verdicts : tie.Need-slice-write-verdicts Inv-loop μ-loop
 slice-write-verdicts c = search needs
@@ -41,16 +41,16 @@ loop-again : tie.Need-loop-again Inv-loop μ-loop
 loop-again c =
     let l = c .before .before .loop in
     let s = c .before .before .before .before .before in
-    (search needs, length-set (l .verdicts) _ _ ∙ l .inv .1, rw (c .judge-line .ensures, l .inv .2) (verdict-put _ _ _ (l .i) (s .args .verdicts .now) (omega arith)))
+    (search needs, length-set (l .verdicts) _ _ ∙ l .inv .1, λ xs f. rw (c .judge-line .ensures xs (f _ (c .before .loop-test .taken)), l .inv .2 xs f) (verdict-put xs _ _ _ (l .i) (s .args .verdicts .now) (omega arith)))
 
 same-length : tie.Need-same-length Inv-loop μ-loop
 same-length c = c .before .loop .inv .1
 
 returns : tie.Need-returns Inv-loop μ-loop
-returns c =
+returns c xs f =
     let l = c .before .loop in
     let e : l .i ≡ c .before .before .before .before .args .m = omega arith in
-    rw e at (l .inv .2)
+    rw e at (l .inv .2 xs f)
 
 pub judge-all-spec : {M : Type 1} → statement M
 judge-all-spec =

@@ -1,44 +1,50 @@
+use mathlib.Core.Path.{sym, _∙_}
 use borrow.Author.Needs.{needs}
-use Rattle.constraint.specs.File.{operandWord}
+use Rattle.judge.proofs.HeadLaws.{word-variable, word-absent, word-constant}
 use Rattle.judge.proofs.lines.operand_word.Statement.{statement}
 use Rattle.judge.proofs.lines.operand_word.Tie as tie
 
-enum-told : tie.Need-enum-told
-enum-told c = search needs
+head-of-requires : tie.Need-head-of-requires
+head-of-requires c κs = search needs
 
-enum-known-o : tie.Need-enum-known-o
-enum-known-o c = search needs
+body-of-requires : tie.Need-body-of-requires
+body-of-requires c κs = search needs
 
-width-of-requires : tie.Need-width-of-requires
-width-of-requires c κs = search needs
+head-width-requires : tie.Need-head-width-requires
+head-width-requires c κs = search needs
+
+is-variable-requires : tie.Need-is-variable-requires
+is-variable-requires c κs = search needs
 
 value-of-requires : tie.Need-value-of-requires
 value-of-requires c κs = search needs
 
-enum-known-o-2 : tie.Need-enum-known-o-2
-enum-known-o-2 c = search needs
-
 returns : tie.Need-returns
-unfolding operandWord
-returns c = rw (c .enum-told .given .1)
+returns c =
+    let v = sym (c .before .before .is-variable .ensures) ∙ c .before .if1 .taken in
+    let h = c .before .before .before .before .before .head-of .ensures in
+    rw (c .value-of .ensures, c .before .before .before .before .body-of .ensures, c .before .before .before .head-width .ensures, h) (word-variable _ _ _ _ _ (c .before .before .before .before .before .before .before .pre .3) (rw h at v))
 
 returns-2 : tie.Need-returns-2
-unfolding operandWord
-returns-2 c = rw (c .before .before .before .o .given .1, c .value-of .ensures, c .before .width-of .ensures)
+returns-2 c =
+    let h = c .before .before .before .before .before .head-of .ensures in
+    rw (c .before .before .before .head-width .ensures, h) (word-absent _ _ _ _ _ (c .before .before .before .before .before .before .before .pre .3) (rw h at (c .if2 .taken)))
 
 returns-3 : tie.Need-returns-3
-unfolding operandWord
-returns-3 c = rw (c .before .o2 .given .1)
+returns-3 c =
+    let v = sym (c .before .before .is-variable .ensures) ∙ c .before .if1 .left in
+    let h = c .before .before .before .before .before .head-of .ensures in
+    rw (c .before .before .before .before .body-of .ensures, c .before .before .before .head-width .ensures, h) (word-constant _ _ _ _ _ (c .before .before .before .before .before .before .before .pre .3) (rw h at v) (rw h at (c .if2 .left)))
 
 pub operand-word-spec : {M : Type 1} → statement M
 operand-word-spec =
     tie.close
     (tie.spec
-    enum-told
-    enum-known-o
-    width-of-requires
+    head-of-requires
+    body-of-requires
+    head-width-requires
+    is-variable-requires
     value-of-requires
-    enum-known-o-2
     returns
     returns-2
     returns-3)

@@ -1,33 +1,20 @@
+use mathlib.Core.Path.{refl, _∙_}
 use borrow.Author.Needs.{needs}
-use Rattle.constraint.specs.File.{target}
+use Rattle.judge.proofs.HeadLaws.{target-absent, target-there}
 use Rattle.judge.proofs.lines.target.Statement.{statement}
 use Rattle.judge.proofs.lines.target.Tie as tie
 
-enum-told : tie.Need-enum-told
-enum-told c = search needs
+head-of-requires : tie.Need-head-of-requires
+head-of-requires c κs = search needs
 
-enum-told-2 : tie.Need-enum-told-2
-enum-told-2 c = search needs
+returns : tie.Need-returns
+returns c xs f = target-absent _ _ _ _ _ (rw (c .before .head-of .ensures) at (c .if1 .taken)) xs
 
 operand-word-requires : tie.Need-operand-word-requires
 operand-word-requires c κs = search needs
 
-enum-known-o : tie.Need-enum-known-o
-enum-known-o c = search needs
-
-returns : tie.Need-returns
-unfolding target
-returns c = rw (c .enum-told .given .1)
-
 returns-2 : tie.Need-returns-2
-unfolding target
-returns-2 c = rw (c .before .enum-told2 .given .1) (rw (c .before .enum-told2 .given .1) at (c .operand-word .ensures))
-
-returns-3 : tie.Need-returns-3
-unfolding target
-returns-3 c = rw (c .before .o .given .1)
+returns-2 c xs f = c .operand-word .ensures xs f ∙ target-there _ _ _ _ _ _ refl (rw (c .before .before .head-of .ensures) at (c .before .if1 .left)) xs
 
 pub target-spec : {M : Type 1} → statement M
-target-spec =
-    tie.close
-    (tie.spec enum-told enum-told-2 operand-word-requires enum-known-o returns returns-2 returns-3)
+target-spec = tie.close (tie.spec head-of-requires returns operand-word-requires returns-2)

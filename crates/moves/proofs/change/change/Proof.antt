@@ -1,22 +1,35 @@
-use mathlib.Core.Path.{_≡_}
+use Prim.Native.Nat.{ℕ}
+use mathlib.Core.Path.{_≡_, _∙_}
+use mathlib.Core.List.{List}
 use borrow.Author.Needs.{needs}
 use Rattle.refusal.specs.Result.{accepted}
 use Rattle.constraint.specs.Read.{readFile}
+use Rattle.store.specs.declared.Progress.{Progress}
 use Rattle.store.specs.Tables.{Store, storeOf}
-use Rattle.store.specs.Progress.{storedFile, InTables}
-use Rattle.moves.proofs.ChangeHeldLaws.{lines-fit-unnamed, change-read}
+use Rattle.store.specs.Progress.{storedFile, InTables, HeadsInUseFit}
+use Rattle.judge.proofs.HeldLaws.{lines-fit}
+use Rattle.moves.proofs.ChangeLaws.{change-bare}
 use Rattle.moves.proofs.change.change.Statement.{statement}
 use Rattle.moves.proofs.change.change.Tie as tie
 
--- the tables that were read
-abbrev tables : tie.After-read → Store
-tables c = let r = c .read in storeOf (r .last .1 .0) (r .last .1 .1 .0) (r .last .1 .1 .1 .0) (r .last .1 .1 .1 .1 .0)
+-- the file that was read
+abbrev bytes : tie.After-p → List ℕ
+bytes c = c .before .before .before .before .before .before .before .before .before .args .constraint .now
 
-file-read : (c : tie.After-p) → let s = c .before .before .before .before .before .before .before .before .before .before .args in accepted (storedFile (s .constraint .now) (tables (c .before .before)) (c .p .given .0 .0)) ≡ readFile (s .constraint .now)
+abbrev tables : tie.After-p → Store
+tables c = let l = c .before .before .read .last .1 in storeOf (l .0) (l .1 .0) (l .1 .1 .0)
+
+abbrev progress : tie.After-p → Progress
+progress c = c .p .given .0 .0
+
+file-read : (c : tie.After-p) → accepted (storedFile (bytes c) (tables c) (progress c)) ≡ readFile (bytes c)
 file-read c = rw (c .p .given .1) at (c .before .before .read .ensures .0)
 
-in-tables : (c : tie.After-p) → InTables (c .p .given .0 .0)
+in-tables : (c : tie.After-p) → InTables (progress c)
 in-tables c = rw (c .p .given .1) at (c .before .before .read .ensures .2)
+
+heads-fit : (c : tie.After-p) → HeadsInUseFit (bytes c) (tables c) (progress c)
+heads-fit c = rw (c .p .given .1) at (c .before .before .read .ensures .3)
 
 read-requires : tie.Need-read-requires
 read-requires c κs = search needs
@@ -29,8 +42,9 @@ enum-known-p c = search needs
 
 change-held-requires : tie.Need-change-held-requires
 change-held-requires c κs =
-    let t = c .before .before .before .before .before in
-    (in-tables t .variables, in-tables t .lines, t .before .before .read .ensures .1 .lines, lines-fit-unnamed (t .before .before .before .before .before .before .before .before .before .before .args .constraint .now) (tables (t .before .before)) (t .p .given .0 .0) (file-read t))
+    let t = c .before .before .before .before .before .before in
+    let sized = t .before .before .read .ensures .1 in
+    (in-tables t .variables, in-tables t .lines, sized .heads, sized .bodies, λ row fits. lines-fit (bytes t) (tables t) (progress t) row (file-read t) (heads-fit t) (fits (bytes t)))
 
 returns : tie.Need-returns
 returns c = rw (← (rw (c .before .r .given .1) at (c .before .before .before .read .ensures .0)))
@@ -43,9 +57,8 @@ same-length-2 c = search needs
 
 returns-2 : tie.Need-returns-2
 returns-2 c =
-    let t = c .before .before .before .before .before .before .before .before .before .before in
-    let s = t .before .before .before .before .before .before .before .before .before .before .args in
-    rw (change-read (s .constraint .now) (tables (t .before .before)) (t .p .given .0 .0) (s .values .now) (s .verdicts .now) (s .i) (s .v) (file-read t)) (c .before .before .before .before .change-held .ensures)
+    let t = c .before .before .before .before .before .before .before .before .before .before .before in
+    rw (← (file-read t)) (c .before .before .before .before .change-held .ensures (bytes t) (heads-fit t) ∙ change-bare (storedFile (bytes t) (tables t) (progress t)) _ _ _ _)
 
 pub change-spec : {M : Type 1} → statement M
 change-spec =

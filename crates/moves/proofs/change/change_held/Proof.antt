@@ -1,21 +1,36 @@
-use Prim.Native.Nat.{_≤_, _<_}
-use mathlib.Core.Path.{sym, _∙_}
+use Prim.Native.Nat.{ℕ, _≤_, _<_}
+use mathlib.Core.Path.{_≡_, sym, _∙_}
+use mathlib.Core.List.{List, []}
 use native.Mathlib.Omega.{arith}
 use lib.ListN.{length, set, length-set}
 use lib.Seq.{length-take-le}
 use borrow.Author.Needs.{needs}
-use Rattle.moves.specs.Gate.{unnamedFile}
-use Rattle.moves.proofs.GateLaws.{Passed, unnamed-sized, changing-passed, passed-within}
+use Rattle.constraint.specs.File.{File}
+use Rattle.store.specs.Tables.{variablesIn, linesIn}
+use Rattle.store.proofs.LineTableLaws.{lines-length}
+use Rattle.moves.specs.Change.{changingFor}
+use Rattle.moves.specs.Gate.{gateResult, fileOf}
+use Rattle.moves.proofs.GateLaws.{Sized, Passed, file-sized, changing-passed, passed-within}
 use Rattle.moves.proofs.ChangeLaws.{change-refused, change-accepted, stored-fits, accept-is}
 use Rattle.moves.proofs.change.change_held.Statement.{statement}
 use Rattle.moves.proofs.change.change_held.Tie as tie
 
--- the tests that passed
-passed : (c : tie.After-enum-told) → let s = c .before .before .before .before .before .before .before .args in Passed (unnamedFile (s .widths .now) (s .n) (s .lines .now) (s .m)) (s .values .now) (s .verdicts .now) (s .i) (s .v)
-passed c = changing-passed _ _ _ _ _ (sym (rw (c .enum-told .given .1) at (c .before .before .gate .ensures (c .before .before .before .before .before .before .before .args .lines .now))))
+-- the file in the tables, if these are its bytes
+abbrev held : tie.After-gate → List ℕ → File
+held c file = let s = c .before .before .before .before .before .args in fileOf (variablesIn file (s .variables .now) (s .n)) (linesIn (s .heads .now) (s .bodies .now) (s .m))
+
+sized : (c : tie.After-gate) (file : List ℕ) → let s = c .before .before .before .before .before .args in Sized (held c file) (s .n) (s .m)
+sized c file = file-sized file _ _ _ _ (lines-length _ _ _)
+
+-- its tests, and what they found where they passed
+tested : (c : tie.After-gate) (file : List ℕ) → let s = c .before .before .before .before .before .args in gateResult (c .gate .result) ≡ changingFor (held c file) (s .values .now) (s .verdicts .now) (s .i) (s .v)
+tested c file = c .gate .ensures file _ (lines-length _ _ _)
+
+passed : (c : tie.After-enum-told) (file : List ℕ) → let s = c .before .before .before .before .before .before .before .args in Passed (held (c .before .before) file) (s .values .now) (s .verdicts .now) (s .i) (s .v)
+passed c file = changing-passed _ _ _ _ _ (sym (rw (c .enum-told .given .1) at (tested (c .before .before) file)))
 
 within : (c : tie.After-enum-told) → let s = c .before .before .before .before .before .before .before .args in (s .i < s .n) × (s .n ≤ length (s .values .now)) × (s .m ≤ length (s .verdicts .now))
-within c = let s = c .before .before .before .before .before .before .before .args in passed-within _ _ _ _ _ _ _ (unnamed-sized (s .widths .now) (s .n) (s .lines .now) (s .m)) (passed c)
+within c = passed-within _ _ _ _ _ _ _ (sized (c .before .before) []) (passed c [])
 
 gate-requires : tie.Need-gate-requires
 gate-requires c κs = search needs
@@ -46,15 +61,15 @@ slice-aggregate-renew c = let s = c .before .before .before .before .before .bef
 
 renew-requires : tie.Need-renew-requires
 renew-requires c κs =
-    let s = c .before .before .before .before .before .before .before .before .before .before in
-    let a = s .args in
-    (s .pre .0, s .pre .1, s .pre .2, within (c .before .before .before) .2, s .pre .3 _ (stored-fits _ _ _ _ _ (passed (c .before .before .before)) _ _ (unnamed-sized (a .widths .now) (a .n) (a .lines .now) (a .m))))
+    let t = c .before .before .before in
+    let s = t .before .before .before .before .before .before .before in
+    (s .pre .1, s .pre .2, s .pre .3, within t .2, s .pre .4 _ (λ file. stored-fits _ _ _ _ _ (passed t file) _ _ (sized (t .before .before) file)))
 
 slice-reshare-prefix-overall : tie.Need-slice-reshare-prefix-overall
-slice-reshare-prefix-overall c = omega (arith, within (c .before .before .before .before .before .before), c .before .before .renew .kept .1 .1 .1 .1 .1 .0)
+slice-reshare-prefix-overall c = omega (arith, within (c .before .before .before .before .before .before), c .before .before .renew .kept .1 .1 .1 .1 .0)
 
 slice-aggregate-overall : tie.Need-slice-aggregate-overall
-slice-aggregate-overall c = let r = c .before .before .before .renew in sym (length-take-le _ (r .last .1 .1 .1 .1 .1 .0) (omega (arith, within (c .before .before .before .before .before .before .before), r .kept .1 .1 .1 .1 .1 .0)))
+slice-aggregate-overall c = let r = c .before .before .before .renew in sym (length-take-le _ (r .last .1 .1 .1 .1 .0) (omega (arith, within (c .before .before .before .before .before .before .before), r .kept .1 .1 .1 .1 .0)))
 
 overall-requires : tie.Need-overall-requires
 overall-requires c κs = search needs
@@ -69,7 +84,7 @@ same-length-2 : tie.Need-same-length-2
 same-length-2 c = search needs
 
 returns : tie.Need-returns
-returns c = change-refused _ _ _ _ _ _ (rw (c .before .r .given .1) at (c .before .before .before .gate .ensures (c .before .before .before .before .before .before .before .before .args .lines .now)))
+returns c file f = change-refused _ _ _ _ _ _ (rw (c .before .r .given .1) at (tested (c .before .before .before) file))
 
 same-length-3 : tie.Need-same-length-3
 same-length-3 c = search needs
@@ -78,12 +93,11 @@ same-length-4 : tie.Need-same-length-4
 same-length-4 c = search needs
 
 returns-2 : tie.Need-returns-2
-returns-2 c =
+returns-2 c file f =
     let t = c .before .before .before .before .before .before .before .before .before in
-    let a = t .before .before .before .before .before .before .before .args in
-    let r = c .before .before .before .before .before .renew in
-    accept-is _ _ _ _ _ (passed t) _ _ (unnamed-sized (a .widths .now) (a .n) (a .lines .now) (a .m)) _ _ _ _ _ (r .ensures .0) (c .before .overall .ensures) (r .ensures .1) (r .ensures .2) (c .differing-bits .ensures)
-    ∙ change-accepted _ _ _ _ _ (rw (t .enum-told .given .1) at (t .before .before .gate .ensures (a .lines .now)))
+    let r = c .before .before .before .before .before .renew .ensures _ f in
+    accept-is _ _ _ _ _ (passed t file) _ _ (sized (t .before .before) file) _ _ _ _ _ (r .made) (c .before .overall .ensures) (r .counted) (r .differed) (c .differing-bits .ensures)
+    ∙ change-accepted _ _ _ _ _ (rw (t .enum-told .given .1) at (tested (t .before .before) file))
 
 pub change-held-spec : {M : Type 1} → statement M
 change-held-spec =

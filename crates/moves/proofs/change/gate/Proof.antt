@@ -1,48 +1,43 @@
 use mathlib.Core.Path.{_≡_, sym, _∙_}
 use mathlib.Core.Bool.{true}
-use lib.ListN.{getD}
 use lib.Seq.{length-take-le}
 use borrow.Author.Needs.{needs}
 use borrow.Author.Tests.{not-true, not-false}
 use Rattle.arithmetic.specs.Rules.{fits}
-use Rattle.store.proofs.WidthLaws.{width-at}
-use Rattle.moves.proofs.GateLaws.{unnamed-sized, changing-values-short, changing-verdicts-short, changing-no-variable, changing-too-large, changing-values-unfit, changing-verdicts-unfit, changing-passes}
+use Rattle.moves.proofs.GateLaws.{file-sized, changing-values-short, changing-verdicts-short, changing-no-variable, changing-too-large, changing-values-unfit, changing-verdicts-unfit, changing-passes}
 use Rattle.moves.proofs.change.gate.Statement.{statement}
 use Rattle.moves.proofs.change.gate.Tie as tie
 
 -- the value fits its variable
-fitting : (c : tie.Else4) → let s = c .before .before .before .before .before .before .before .before .args in fits (record { width = getD (s .widths .now) (s .i) 0; value = s .v }) ≡ true
+fitting : (c : tie.Else4) → fits (record { width = c .before .before .width-of .result; value = c .before .before .before .before .before .before .before .before .args .v }) ≡ true
 fitting c = sym (c .before .fits2 .ensures) ∙ not-false _ (c .if4 .left)
 
 bar-requires : tie.Need-bar-requires
 bar-requires c κs = search needs
 
 returns : tie.Need-returns
-returns c =
+returns c file ls e =
     let s = c .before .before .before .before .args in
-    λ lines. rw (c .bar .ensures) (changing-values-short _ _ _ (unnamed-sized (s .widths .now) (s .n) lines (s .m)) _ _ _ _ (c .before .if1 .taken))
+    rw (c .bar .ensures) (changing-values-short _ _ _ (file-sized file (s .variables .now) (s .n) ls (s .m) e) _ _ _ _ (c .before .if1 .taken))
 
 bar-requires-2 : tie.Need-bar-requires-2
 bar-requires-2 c κs = search needs
 
 returns-2 : tie.Need-returns-2
-returns-2 c =
+returns-2 c file ls e =
     let s = c .before .before .before .before .before .args in
-    λ lines. rw (c .bar2 .ensures) (changing-verdicts-short _ _ _ (unnamed-sized (s .widths .now) (s .n) lines (s .m)) _ _ _ _ (c .before .before .if1 .left) (c .before .if2 .taken))
+    rw (c .bar2 .ensures) (changing-verdicts-short _ _ _ (file-sized file (s .variables .now) (s .n) ls (s .m) e) _ _ _ _ (c .before .before .if1 .left) (c .before .if2 .taken))
 
 bar-requires-3 : tie.Need-bar-requires-3
 bar-requires-3 c κs = search needs
 
 returns-3 : tie.Need-returns-3
-returns-3 c =
+returns-3 c file ls e =
     let s = c .before .before .before .before .before .before .args in
-    λ lines. rw (c .bar3 .ensures) (changing-no-variable _ _ _ (unnamed-sized (s .widths .now) (s .n) lines (s .m)) _ _ _ _ (c .before .before .before .if1 .left) (c .before .before .if2 .left) (c .before .if3 .taken))
+    rw (c .bar3 .ensures) (changing-no-variable _ _ _ (file-sized file (s .variables .now) (s .n) ls (s .m) e) _ _ _ _ (c .before .before .before .if1 .left) (c .before .before .if2 .left) (c .before .if3 .taken))
 
-mul-t11 : tie.Need-mul-t11
-mul-t11 c = search needs
-
-element-copy-out-t18 : tie.Need-element-copy-out-t18
-element-copy-out-t18 c = search needs
+width-of-requires : tie.Need-width-of-requires
+width-of-requires c κs = search needs
 
 fits-requires : tie.Need-fits-requires
 fits-requires c κs = search needs
@@ -51,10 +46,11 @@ bar-requires-4 : tie.Need-bar-requires-4
 bar-requires-4 c κs = search needs
 
 returns-4 : tie.Need-returns-4
-returns-4 c =
-    let t = c .before .before .before .before in
+returns-4 c file ls e =
+    let w = c .before .before .before in
+    let t = w .before in
     let s = t .before .before .before .before .before .args in
-    λ lines. rw (c .bar4 .ensures) (changing-too-large _ _ _ (unnamed-sized (s .widths .now) (s .n) lines (s .m)) _ _ _ _ (t .before .before .if1 .left) (t .before .if2 .left) (t .if3 .left) _ (width-at (s .widths .now) (s .n) (s .i) (t .if3 .left)) (sym (c .before .before .fits2 .ensures) ∙ not-true _ (c .before .if4 .taken)))
+    rw (c .bar4 .ensures) (changing-too-large _ _ _ (file-sized file (s .variables .now) (s .n) ls (s .m) e) _ _ _ _ (t .before .before .if1 .left) (t .before .if2 .left) (t .if3 .left) _ (sym (w .width-of .ensures file)) (sym (c .before .before .fits2 .ensures) ∙ not-true _ (c .before .if4 .taken)))
 
 first-unfit-requires : tie.Need-first-unfit-requires
 first-unfit-requires c κs = search needs
@@ -84,27 +80,27 @@ enum-told-2 : tie.Need-enum-told-2
 enum-told-2 c = search needs
 
 returns-5 : tie.Need-returns-5
-returns-5 c =
-    let t = c .before .before .before .before .before .before .before .before in
+returns-5 c file ls e =
+    let w = c .before .before .before .before .before .before .before in
+    let t = w .before in
     let s = t .before .before .before .before .before .args in
-    λ lines.
     rw (c .bar5 .ensures)
-    (changing-values-unfit _ _ _ (unnamed-sized (s .widths .now) (s .n) lines (s .m)) _ _ _ _ (t .before .before .if1 .left) (t .before .if2 .left) (t .if3 .left) _ (width-at (s .widths .now) (s .n) (s .i) (t .if3 .left)) (fitting (c .before .before .before .before .before)) _ (rw (c .before .before .k .given .1) at (c .before .before .before .before .first-unfit .ensures)))
+    (changing-values-unfit _ _ _ (file-sized file (s .variables .now) (s .n) ls (s .m) e) _ _ _ _ (t .before .before .if1 .left) (t .before .if2 .left) (t .if3 .left) _ (sym (w .width-of .ensures file)) (fitting (c .before .before .before .before .before)) _ (rw (c .before .before .k .given .1) at (c .before .before .before .before .first-unfit .ensures file)))
 
 returns-6 : tie.Need-returns-6
-returns-6 c =
-    let t = c .before .before .before .before .before .before .before .before .before .before .before .before in
+returns-6 c file ls e =
+    let w = c .before .before .before .before .before .before .before .before .before .before .before in
+    let t = w .before in
     let s = t .before .before .before .before .before .args in
-    λ lines.
     rw (c .bar6 .ensures)
-    (changing-verdicts-unfit _ _ _ (unnamed-sized (s .widths .now) (s .n) lines (s .m)) _ _ _ _ (t .before .before .if1 .left) (t .before .if2 .left) (t .if3 .left) _ (width-at (s .widths .now) (s .n) (s .i) (t .if3 .left)) (fitting (c .before .before .before .before .before .before .before .before .before)) (rw (c .before .before .before .before .before .before .enum-told .given .1) at (c .before .before .before .before .before .before .before .before .first-unfit .ensures)) _ (rw (c .before .before .k2 .given .1) at (c .before .before .before .before .first-above .ensures)))
+    (changing-verdicts-unfit _ _ _ (file-sized file (s .variables .now) (s .n) ls (s .m) e) _ _ _ _ (t .before .before .if1 .left) (t .before .if2 .left) (t .if3 .left) _ (sym (w .width-of .ensures file)) (fitting (c .before .before .before .before .before .before .before .before .before)) (rw (c .before .before .before .before .before .before .enum-told .given .1) at (c .before .before .before .before .before .before .before .before .first-unfit .ensures file)) _ (rw (c .before .before .k2 .given .1) at (c .before .before .before .before .first-above .ensures)))
 
 returns-7 : tie.Need-returns-7
-returns-7 c =
-    let t = c .before .before .before .before .before .before .before .before .before .before in
+returns-7 c file ls e =
+    let w = c .before .before .before .before .before .before .before .before .before in
+    let t = w .before in
     let s = t .before .before .before .before .before .args in
-    λ lines.
-    changing-passes _ _ _ (unnamed-sized (s .widths .now) (s .n) lines (s .m)) _ _ _ _ (t .before .before .if1 .left) (t .before .if2 .left) (t .if3 .left) _ (width-at (s .widths .now) (s .n) (s .i) (t .if3 .left)) (fitting (c .before .before .before .before .before .before .before)) (rw (c .before .before .before .before .enum-told .given .1) at (c .before .before .before .before .before .before .first-unfit .ensures)) (rw (c .enum-told2 .given .1) at (c .before .before .first-above .ensures))
+    changing-passes _ _ _ (file-sized file (s .variables .now) (s .n) ls (s .m) e) _ _ _ _ (t .before .before .if1 .left) (t .before .if2 .left) (t .if3 .left) _ (sym (w .width-of .ensures file)) (fitting (c .before .before .before .before .before .before .before)) (rw (c .before .before .before .before .enum-told .given .1) at (c .before .before .before .before .before .before .first-unfit .ensures file)) (rw (c .enum-told2 .given .1) at (c .before .before .first-above .ensures))
 
 pub gate-spec : {M : Type 1} → statement M
 gate-spec =
@@ -116,8 +112,7 @@ gate-spec =
     returns-2
     bar-requires-3
     returns-3
-    mul-t11
-    element-copy-out-t18
+    width-of-requires
     fits-requires
     bar-requires-4
     returns-4

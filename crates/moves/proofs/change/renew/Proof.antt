@@ -1,33 +1,42 @@
 -- `renew` meets its contract. The loop's invariant: the first k verdicts are made anew and counted, and those behind them are as they were.
 use Prim.Native.Nat.{_-_, _≤_}
 use mathlib.Core.Path.{_≡_}
+use mathlib.Core.List.{List}
 use native.Mathlib.Omega.{arith}
+use lib.ListN.{length}
 use borrow.Author.Needs.{needs}
-use Rattle.judge.specs.Fitting.{Fitting}
-use Rattle.judge.proofs.VerdictLaws.{each-line}
+use Rattle.constraint.specs.File.{Variable}
+use Rattle.store.specs.Tables.{AllHeadsFit}
 use Rattle.moves.proofs.RenewLaws.{Turn, renewal-most, turn-start, turn-next}
 use Rattle.moves.proofs.change.renew.Statement.{statement}
 use Rattle.moves.proofs.change.renew.Tie as tie
 
 abbrev Inv-loop : tie.InvT-loop
-Inv-loop widths n lines m row verdicts₀ i named₀ altered₀ k₀ verdicts named altered k = (k ≤ m) × Turn widths n lines row i verdicts₀ verdicts named altered k
+Inv-loop heads bodies m row verdicts₀ i named₀ altered₀ k₀ verdicts named altered k =
+    (k ≤ m) × (length verdicts ≡ length verdicts₀) × (named ≤ k) × (altered ≤ k) × ((xs : List Variable) → AllHeadsFit xs heads bodies m → Turn xs heads bodies row i verdicts₀ verdicts named altered k)
 
 abbrev μ-loop : tie.MeasureT-loop
-μ-loop widths n lines m row verdicts₀ i named₀ altered₀ k₀ verdicts named altered k = m - k
+μ-loop heads bodies m row verdicts₀ i named₀ altered₀ k₀ verdicts named altered k = m - k
 
 loop-holds : tie.Need-loop-holds Inv-loop μ-loop
-loop-holds c = (search needs, turn-start _ _ _ _ _ _)
+loop-holds c = (search needs, search needs, search needs, search needs, λ xs f. turn-start xs _ _ _ _ _)
 
 renew-line-requires : tie.Need-renew-line-requires Inv-loop μ-loop
 renew-line-requires c κs =
     let s = c .before .before .before .before .before in
-    (s .pre .0, omega arith, s .pre .2, omega arith, each-line (Fitting _ _) _ _ _ (s .pre .4) (c .before .loop-test .taken))
+    (omega arith, s .pre .1, s .pre .2, omega arith, s .pre .4 _ (c .before .loop-test .taken))
+
+-- a line counts once
+most : (c : tie.After-renew-line Inv-loop μ-loop) → (c .renew-line .result .named ≤ 1) × (c .renew-line .result .altered ≤ 1)
+most c =
+    let j = c .before .before .before .before .before .before .pre .4 _ (c .before .before .loop-test .taken) in
+    renewal-most _ _ _ _ _ _ (c .renew-line .ensures (j .variables) (j .heads-fit) .0)
 
 add-named : tie.Need-add-named Inv-loop μ-loop
-add-named c = let r = c .before .before .before .renew-line in omega (arith, renewal-most _ _ _ _ _ (r .result) (r .ensures .0))
+add-named c = omega (arith, most (c .before .before .before))
 
 add-altered : tie.Need-add-altered Inv-loop μ-loop
-add-altered c = let r = c .before .before .before .before .renew-line in omega (arith, renewal-most _ _ _ _ _ (r .result) (r .ensures .0))
+add-altered c = omega (arith, most (c .before .before .before .before))
 
 add-k : tie.Need-add-k Inv-loop μ-loop
 add-k c = search needs
@@ -37,17 +46,19 @@ loop-less c = search needs
 
 loop-again : tie.Need-loop-again Inv-loop μ-loop
 loop-again c =
-    let r = c .before .before .before .before .renew-line in
-    (search needs, turn-next _ _ _ _ _ _ _ _ _ _ (c .before .before .before .before .before .before .before .loop .inv .1) (omega arith) _ _ (r .ensures .0) (r .ensures .1))
+    let a = c .before .before .before .before in
+    let l = a .before .before .before .loop in
+    let h = a .before .before .loop-test .taken in
+    (search needs, search needs, omega (arith, most a), omega (arith, most a), λ xs f. let e = a .renew-line .ensures xs (f _ h) in turn-next xs _ _ _ _ _ _ _ _ _ (l .inv .4 xs f) (omega arith) _ _ (e .0) (e .1))
 
 same-length : tie.Need-same-length Inv-loop μ-loop
-same-length c = c .before .loop .inv .1 .long
+same-length c = c .before .loop .inv .1
 
 returns : tie.Need-returns Inv-loop μ-loop
-returns c =
+returns c xs f =
     let l = c .before .loop in
     let e : l .k ≡ c .before .before .before .before .args .m = omega arith in
-    (rw e at (l .inv .1 .made), rw e at (l .inv .1 .counted), rw e at (l .inv .1 .differed))
+    rw e at (l .inv .4 xs f)
 
 pub renew-spec : {M : Type 1} → statement M
 renew-spec =

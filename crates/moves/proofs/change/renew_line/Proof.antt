@@ -27,13 +27,13 @@ same-length c = search needs
 
 returns : tie.Need-returns
 unfolding remade
-returns c =
+returns c xs f =
     let hit = sym (c .before .before .before .before .names .ensures) ∙ c .before .before .before .if1 .taken in
-    (rw (c .differ .ensures, c .before .judge-line .ensures, hit), rw (c .before .judge-line .ensures, hit))
+    (rw (c .differ .ensures, c .before .judge-line .ensures xs f, hit), rw (c .before .judge-line .ensures xs f, hit))
 
 returns-2 : tie.Need-returns-2
 unfolding remade
-returns-2 c =
+returns-2 c xs f =
     let s = c .before .before .before .before .args in
     let old = getD (s .verdicts .now) (s .k) 0 in
     let miss = sym (c .before .names .ensures) ∙ c .if1 .left in

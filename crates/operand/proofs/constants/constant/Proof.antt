@@ -9,7 +9,7 @@ use Rattle.text.proofs.RunLaws.{past-le, scan-bounds}
 use Rattle.constraint.specs.Read.{readConstant}
 use Rattle.text.specs.Scan.{tokenAt}
 use Rattle.operand.specs.Internal.{operandResult}
-use Rattle.operand.proofs.ConstantLaws.{good-stops, constant-stop, constant-read}
+use Rattle.operand.proofs.ConstantLaws.{constant-head-fits, good-stops, constant-stop, constant-read}
 use Rattle.operand.proofs.TakenLaws.{taken-refused, taken-read}
 use borrow.Author.Needs.{needs}
 use Rattle.operand.proofs.constants.constant.Statement.{statement}
@@ -48,14 +48,14 @@ enum-known-n c = search needs
 refusal-requires : tie.Need-refusal-requires
 refusal-requires c κs = search needs
 
-enum-known-o : tie.Need-enum-known-o
-enum-known-o c = search needs
+enum-known-head : tie.Need-enum-known-head
+enum-known-head c = search needs
 
 returns : tie.Need-returns
 returns c =
     let m = c .before .before .before .before in
     let a = m .before .before .before .before .before .args in
-    (rw (c .refusal .ensures) (taken-refused readConstant (a .line .now) (a .at) (past (isOf Solid) (a .line .now) (a .at)) refl _ (rw (c .before .before .n .given .1) at (read m))), tt)
+    (rw (c .refusal .ensures) (taken-refused readConstant (a .line .now) (a .at) (past (isOf Solid) (a .line .now) (a .at)) refl _ (rw (c .before .before .n .given .1) at (read m))), tt, λ xs. tt)
 
 returns-2 : tie.Need-returns-2
 returns-2 c =
@@ -63,9 +63,9 @@ returns-2 c =
     let d = m .before .before .before in
     let s = d .before .before in
     let f = m .before .type-at in
-    let g = sym (m .constant-of .ensures) ∙ c .before .o .given .1 in
-    let e : f .result .stop ≡ past (isOf Solid) (s .args .line .now) (s .args .at) = good-stops (m .before .before .within-digits .result) (f .result .kind) _ _ _ g (f .ensures .1) ∙ constant-stop (s .args .line .now) (s .args .at) (d .digits-at .result .stop) (s .pre) (d .digits-at .ensures .1) in
-    (rw e (taken-read readConstant (s .args .line .now) (s .args .at) (past (isOf Solid) (s .args .line .now) (s .args .at)) refl _ (rw (c .before .o .given .1) at (read m))), omega (arith, e, past-le (isOf Solid) (s .args .line .now) (s .args .at) (s .pre)))
+    let g = sym (m .constant-of .ensures) ∙ c .before .head .given .1 in
+    let e : f .result .stop ≡ past (isOf Solid) (s .args .line .now) (s .args .at) = good-stops (m .before .before .within-digits .result) (f .result .kind) _ _ _ _ g (f .ensures .1) ∙ constant-stop (s .args .line .now) (s .args .at) (d .digits-at .result .stop) (s .pre) (d .digits-at .ensures .1) in
+    (rw e (taken-read readConstant (s .args .line .now) (s .args .at) (past (isOf Solid) (s .args .line .now) (s .args .at)) refl _ (rw (c .before .head .given .1) at (read m))), omega (arith, e, past-le (isOf Solid) (s .args .line .now) (s .args .at) (s .pre)), λ xs. rw g at (constant-head-fits xs (m .before .before .within-digits .result) (f .result .kind)))
 
 pub constant-spec : {M : Type 1} → statement M
 constant-spec =
@@ -78,6 +78,6 @@ constant-spec =
     constant-of-requires
     enum-known-n
     refusal-requires
-    enum-known-o
+    enum-known-head
     returns
     returns-2)

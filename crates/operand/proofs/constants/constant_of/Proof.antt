@@ -30,6 +30,9 @@ enum-told-7 c = search needs
 enum-known-kind : tie.Need-enum-known-kind
 enum-known-kind c = search needs
 
+constant-head-requires : tie.Need-constant-head-requires
+constant-head-requires c κs = search needs
+
 reduced-requires : tie.Need-reduced-requires
 reduced-requires c κs = search needs
 
@@ -52,7 +55,7 @@ returns-6 : tie.Need-returns-6
 returns-6 c = rw (c .before .before .before .number .given .1, c .enum-told7 .given .1)
 
 returns-7 : tie.Need-returns-7
-returns-7 c = let m = c .before .before in rw (m .before .before .before .number .given .1, m .kind .given .1, c .reduced .ensures)
+returns-7 c = let m = c .before .before .before in rw (m .before .before .before .number .given .1, m .kind .given .1, c .before .constant-head .ensures, c .reduced .ensures)
 
 pub constant-of-spec : {M : Type 1} → statement M
 constant-of-spec =
@@ -67,6 +70,7 @@ constant-of-spec =
     enum-told-6
     enum-told-7
     enum-known-kind
+    constant-head-requires
     reduced-requires
     returns
     returns-2

@@ -38,8 +38,8 @@ enum-known-number c = search needs
 refusal-requires : tie.Need-refusal-requires
 refusal-requires c κs = search needs
 
-enum-known-o : tie.Need-enum-known-o
-enum-known-o c = search needs
+enum-known-head : tie.Need-enum-known-head
+enum-known-head c = search needs
 
 refusal-requires-2 : tie.Need-refusal-requires-2
 refusal-requires-2 c κs = search needs
@@ -50,7 +50,7 @@ returns c =
     let n = v .before .before .before .before in
     let s = n .before .before .before in
     let e = sym (v .before .before .before .token-ends .ensures) ∙ v .before .before .if1 .taken in
-    (λ widths d. rw (c .refusal .ensures) (named-refused _ (s .args .line .now) (s .args .at) (s .pre .0) (s .pre .2) (n .name-bytes .result) (n .name-bytes .ensures) e _ (rw (c .before .before .number .given .1) at (v .variable .ensures widths d))), tt)
+    (λ d. rw (c .refusal .ensures) (named-refused _ (s .args .line .now) (s .args .at) (s .pre .0) (s .pre .2) (n .name-bytes .result) (n .name-bytes .ensures) e _ (rw (c .before .before .number .given .1) at (v .variable .ensures .0 d))), tt, tt)
 
 returns-2 : tie.Need-returns-2
 returns-2 c =
@@ -58,14 +58,14 @@ returns-2 c =
     let n = v .before .before .before .before in
     let s = n .before .before .before in
     let e = sym (v .before .before .before .token-ends .ensures) ∙ v .before .before .if1 .taken in
-    (λ widths d. named-read _ (s .args .line .now) (s .args .at) (s .pre .0) (s .pre .2) (n .name-bytes .result) (n .name-bytes .ensures) e _ (rw (c .before .o .given .1) at (v .variable .ensures widths d)), bounds n .1)
+    (λ d. named-read _ (s .args .line .now) (s .args .at) (s .pre .0) (s .pre .2) (n .name-bytes .result) (n .name-bytes .ensures) e _ (rw (c .before .head .given .1) at (v .variable .ensures .0 d)), bounds n .1, rw (c .before .head .given .1) at (v .variable .ensures .1))
 
 returns-3 : tie.Need-returns-3
 returns-3 c =
     let n = c .before .before .before in
     let s = n .before .before .before in
     let e = sym (c .before .before .token-ends .ensures) ∙ c .before .if1 .left in
-    (λ widths d. rw (c .refusal2 .ensures) (named-broken _ (s .args .line .now) (s .args .at) (s .pre .0) (s .pre .2) (n .name-bytes .result) (n .name-bytes .ensures) e), tt)
+    (λ d. rw (c .refusal2 .ensures) (named-broken _ (s .args .line .now) (s .args .at) (s .pre .0) (s .pre .2) (n .name-bytes .result) (n .name-bytes .ensures) e), tt, tt)
 
 pub named-spec : {M : Type 1} → statement M
 named-spec =
@@ -78,7 +78,7 @@ named-spec =
     variable-requires
     enum-known-number
     refusal-requires
-    enum-known-o
+    enum-known-head
     refusal-requires-2
     returns
     returns-2

@@ -1,6 +1,5 @@
 -- `finish` meets its contract: no more tokens, then the type rule.
 use mathlib.Core.Path.{sym, _∙_}
-use Rattle.statement.proofs.TypingLaws.{well-typed-unnamed}
 use borrow.Author.Needs.{needs}
 use Rattle.statement.proofs.operations.finish.Statement.{statement}
 use Rattle.statement.proofs.operations.finish.Tie as tie
@@ -24,17 +23,13 @@ refusal-requires-2 : tie.Need-refusal-requires-2
 refusal-requires-2 c κs = search needs
 
 returns : tie.Need-returns
-returns c = λ file starts lens. rw (c .before .before .before .before .next-token .ensures .0, c .before .before .t .given .1, c .refusal .ensures)
+returns c = λ xs f. rw (c .before .before .before .before .next-token .ensures .0, c .before .before .t .given .1, c .refusal .ensures)
 
 returns-2 : tie.Need-returns-2
-returns-2 c =
-    let s = c .before .before .before .before .before .before in
-    λ file starts lens. rw (c .before .before .before .before .next-token .ensures .0, c .before .before .enum-told .given .1, sym (well-typed-unnamed file starts lens (s .args .widths .now) (s .args .n) (s .args .line)) ∙ sym (c .before .well-typed .ensures) ∙ c .if1 .taken)
+returns-2 c = λ xs f. rw (c .before .before .before .before .next-token .ensures .0, c .before .before .enum-told .given .1, sym (c .before .well-typed .ensures xs f) ∙ c .if1 .taken)
 
 returns-3 : tie.Need-returns-3
-returns-3 c =
-    let s = c .before .before .before .before .before .before .before in
-    λ file starts lens. rw (c .before .before .before .before .before .next-token .ensures .0, c .before .before .before .enum-told .given .1, sym (well-typed-unnamed file starts lens (s .args .widths .now) (s .args .n) (s .args .line)) ∙ sym (c .before .before .well-typed .ensures) ∙ c .before .if1 .left, c .refusal2 .ensures)
+returns-3 c = λ xs f. rw (c .before .before .before .before .before .next-token .ensures .0, c .before .before .before .enum-told .given .1, sym (c .before .before .well-typed .ensures xs f) ∙ c .before .if1 .left, c .refusal2 .ensures)
 
 pub finish-spec : {M : Type 1} → statement M
 finish-spec =

@@ -1,33 +1,17 @@
-use Rattle.constraint.specs.TypeRules.{resultWidth}
+use mathlib.Core.Path.{_∙_}
+use Rattle.statement.proofs.TypingLaws.{result-absent, result-there}
 use borrow.Author.Needs.{needs}
 use Rattle.statement.proofs.typing.result_width.Statement.{statement}
 use Rattle.statement.proofs.typing.result_width.Tie as tie
 
-enum-told : tie.Need-enum-told
-enum-told c = search needs
-
-enum-known-o : tie.Need-enum-known-o
-enum-known-o c = search needs
-
-width-of-requires : tie.Need-width-of-requires
-width-of-requires c κs = search needs
-
-enum-known-o-2 : tie.Need-enum-known-o-2
-enum-known-o-2 c = search needs
+head-width-requires : tie.Need-head-width-requires
+head-width-requires c κs = search needs
 
 returns : tie.Need-returns
-unfolding resultWidth
-returns c = rw (c .enum-told .given .1)
+returns c = λ xs body fits. result-absent xs (c .before .args .head) body (c .if1 .taken)
 
 returns-2 : tie.Need-returns-2
-unfolding resultWidth
-returns-2 c = rw (c .before .before .o .given .1) (c .width-of .ensures)
-
-returns-3 : tie.Need-returns-3
-unfolding resultWidth
-returns-3 c = rw (c .before .o2 .given .1)
+returns-2 c = λ xs body fits. c .head-width .ensures ∙ result-there xs (c .before .before .args .head) body fits (c .before .if1 .left)
 
 pub result-width-spec : {M : Type 1} → statement M
-result-width-spec =
-    tie.close
-    (tie.spec enum-told enum-known-o width-of-requires enum-known-o-2 returns returns-2 returns-3)
+result-width-spec = tie.close (tie.spec head-width-requires returns returns-2)

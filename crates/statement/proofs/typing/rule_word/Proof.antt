@@ -1,33 +1,20 @@
-use Rattle.constraint.specs.TypeRules.{ruleWord}
+use mathlib.Core.Path.{sym, _∙_}
+use Rattle.statement.proofs.TypingLaws.{rule-constant, rule-other}
 use borrow.Author.Needs.{needs}
 use Rattle.statement.proofs.typing.rule_word.Statement.{statement}
 use Rattle.statement.proofs.typing.rule_word.Tie as tie
 
-enum-told : tie.Need-enum-told
-enum-told c = search needs
+head-width-requires : tie.Need-head-width-requires
+head-width-requires c κs = search needs
 
-enum-known-o : tie.Need-enum-known-o
-enum-known-o c = search needs
-
-width-of-requires : tie.Need-width-of-requires
-width-of-requires c κs = search needs
-
-enum-known-o-2 : tie.Need-enum-known-o-2
-enum-known-o-2 c = search needs
+is-constant-requires : tie.Need-is-constant-requires
+is-constant-requires c κs = search needs
 
 returns : tie.Need-returns
-unfolding ruleWord
-returns c = rw (c .enum-told .given .1)
+returns c = λ xs fits. let s = c .before .before .before in rw (c .before .before .head-width .ensures) (rule-constant xs (s .args .head) (s .args .body) fits (sym (c .before .is-constant .ensures) ∙ c .if1 .taken))
 
 returns-2 : tie.Need-returns-2
-unfolding ruleWord
-returns-2 c = rw (c .before .before .o .given .1, c .width-of .ensures)
-
-returns-3 : tie.Need-returns-3
-unfolding ruleWord
-returns-3 c = rw (c .before .o2 .given .1)
+returns-2 c = λ xs fits. let s = c .before .before .before in rw (c .before .before .head-width .ensures) (rule-other xs (s .args .head) (s .args .body) fits (sym (c .before .is-constant .ensures) ∙ c .if1 .left))
 
 pub rule-word-spec : {M : Type 1} → statement M
-rule-word-spec =
-    tie.close
-    (tie.spec enum-told enum-known-o width-of-requires enum-known-o-2 returns returns-2 returns-3)
+rule-word-spec = tie.close (tie.spec head-width-requires is-constant-requires returns returns-2)

@@ -1,4 +1,4 @@
-use Rattle.store.specs.Tables.{lineIn}
+use Rattle.store.specs.Tables.{operatorIn}
 use borrow.Author.Needs.{needs}
 use Rattle.store.proofs.lines.operator_of.Statement.{statement}
 use Rattle.store.proofs.lines.operator_of.Tie as tie
@@ -6,19 +6,16 @@ use Rattle.store.proofs.lines.operator_of.Tie as tie
 mul-i : tie.Need-mul-i
 mul-i c = search needs
 
-mul-operator-numbered : tie.Need-mul-operator-numbered
-mul-operator-numbered c = search needs
+element-copy-out-operator-by : tie.Need-element-copy-out-operator-by
+element-copy-out-operator-by c = search needs
 
-element-copy-out-operator-numbered : tie.Need-element-copy-out-operator-numbered
-element-copy-out-operator-numbered c = search needs
-
-operator-numbered-requires : tie.Need-operator-numbered-requires
-operator-numbered-requires c κs = search needs
+operator-by-requires : tie.Need-operator-by-requires
+operator-by-requires c κs = search needs
 
 returns : tie.Need-returns
-unfolding lineIn
-returns c = c .operator-numbered .ensures
+unfolding operatorIn
+returns c = c .operator-by .ensures
 
 pub operator-of-spec : {M : Type 1} → statement M
 operator-of-spec =
-    tie.close (tie.spec mul-i mul-operator-numbered element-copy-out-operator-numbered operator-numbered-requires returns)
+    tie.close (tie.spec mul-i element-copy-out-operator-by operator-by-requires returns)

@@ -3,8 +3,8 @@ use Prim.Native.Nat.{_-_}
 use mathlib.Core.Path.{sym, _∙_}
 use native.Mathlib.Omega.{arith}
 use lib.ListN.{length}
-use borrow.Author.Needs.{needs}
 use Rattle.store.proofs.LookupLaws.{named-guess}
+use borrow.Author.Needs.{needs}
 use Rattle.store.proofs.names.find.Statement.{statement}
 use Rattle.store.proofs.names.find.Tie as tie
 
@@ -23,31 +23,32 @@ mul-guess c = omega (arith, c .shared-slice-known3 .given (length (c .before .be
 element-copy-out-guess : tie.Need-element-copy-out-guess
 element-copy-out-guess c = omega (arith, c .shared-slice-known3 .given (length (c .before .before .before .args .text .now) - 1))
 
-mul-start : tie.Need-mul-start
-mul-start c = search needs
+mul-word : tie.Need-mul-word
+mul-word c = search needs
 
-element-copy-out-start : tie.Need-element-copy-out-start
-element-copy-out-start c = search needs
+element-copy-out-word : tie.Need-element-copy-out-word
+element-copy-out-word c = search needs
 
-mul-len : tie.Need-mul-len
-mul-len c = search needs
+name-start-requires : tie.Need-name-start-requires
+name-start-requires c κs = search needs
 
-element-copy-out-len : tie.Need-element-copy-out-len
-element-copy-out-len c = search needs
+name-length-requires : tie.Need-name-length-requires
+name-length-requires c κs = search needs
 
 same-part-requires : tie.Need-same-part-requires
 same-part-requires c κs = search needs
 
 returns : tie.Need-returns
 returns c =
-    let t = c .before .before .before .before in
-    λ widths u. sym (named-guess _ _ _ _ widths _ _ u (t .if1 .taken) (sym (c .before .same-part .ensures) ∙ c .if2 .taken))
+    let p = c .before in
+    let g = p .before .before .before in
+    λ u. sym (named-guess _ _ _ _ _ u (g .before .if1 .taken) (sym (rw (p .before .name-length .ensures, p .before .before .name-start .ensures) at (p .same-part .ensures)) ∙ c .if2 .taken))
 
 lookup-requires : tie.Need-lookup-requires
 lookup-requires c κs = search needs
 
 returns-2 : tie.Need-returns-2
-returns-2 c = λ widths u. c .lookup .ensures widths
+returns-2 c = λ u. c .lookup .ensures
 
 pub find-spec : {M : Type 1} → statement M
 find-spec =
@@ -58,10 +59,10 @@ find-spec =
     cast-key
     mul-guess
     element-copy-out-guess
-    mul-start
-    element-copy-out-start
-    mul-len
-    element-copy-out-len
+    mul-word
+    element-copy-out-word
+    name-start-requires
+    name-length-requires
     same-part-requires
     returns
     lookup-requires

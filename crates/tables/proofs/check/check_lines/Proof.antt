@@ -10,8 +10,7 @@ use Rattle.store.specs.declared.Progress.{Progress}
 use Rattle.constraint.specs.File.{File}
 use Rattle.constraint.specs.Read.{readFile}
 use Rattle.store.specs.Tables.{Store, storeOf}
-use Rattle.store.specs.Progress.{storedFile, InTables}
-use Rattle.judge.proofs.HeldLaws.{fresh-held}
+use Rattle.store.specs.Progress.{storedFile, InTables, HeadsInUseFit}
 use Rattle.answer.specs.Read.{readAnswer}
 use Rattle.tables.specs.Check.{checked}
 use Rattle.tables.proofs.CheckLaws.{refused-constraint, refused-answer, values-short, verdicts-short, checked-row, variables-held, lines-held, answer-fits-lines, counts-lines, tables-filled}
@@ -20,7 +19,7 @@ use Rattle.tables.proofs.check.check_lines.Tie as tie
 
 -- the call, where a file was read
 abbrev start : tie.After-p → tie.Start
-start c = c .before .before .before .before .before .before .before .before .before .before .before
+start c = c .before .before .before .before .before .before .before .before .before .before
 
 abbrev bytes : tie.After-p → List ℕ
 bytes c = start c .args .constraint .now
@@ -30,7 +29,7 @@ abbrev progress : tie.After-p → Progress
 progress c = c .p .given .0 .0
 
 abbrev tables : tie.After-p → Store
-tables c = let l = c .before .before .read .last .1 in storeOf (l .0) (l .1 .0) (l .1 .1 .0) (l .1 .1 .1 .0)
+tables c = let l = c .before .before .read .last .1 in storeOf (l .0) (l .1 .0) (l .1 .1 .0)
 
 abbrev file : tie.After-p → File
 file c = storedFile (bytes c) (tables c) (progress c)
@@ -41,17 +40,20 @@ file-read c = rw (c .p .given .1) at (c .before .before .read .ensures .0)
 few : (c : tie.After-p) → InTables (progress c)
 few c = rw (c .p .given .1) at (c .before .before .read .ensures .2)
 
+heads-fit : (c : tie.After-p) → HeadsInUseFit (bytes c) (tables c) (progress c)
+heads-fit c = rw (c .p .given .1) at (c .before .before .read .ensures .3)
+
 -- the row that was read
 abbrev read : tie.After-enum-told → tie.After-p
-read c = c .before .before .before .before .before .before .before .before
+read c = c .before .before .before .before .before .before
 
 abbrev row : tie.After-enum-told → List ℕ
-row c = take (progress (read c) .variables) (c .before .before .read-answer .last .1 .1 .1 .1 .1 .1 .0)
+row c = take (progress (read c) .variables) (c .before .before .read-answer .last .1 .1 .1 .1 .0)
 
 row-read : (c : tie.After-enum-told) → accepted (row c) ≡ readAnswer (file (read c) .variables) (start (read c) .args .answer .now)
 row-read c = rw (c .enum-told .given .1) at (c .before .before .read-answer .ensures .0)
 
-row-whole : (c : tie.After-enum-told) → progress (read c) .variables ≤ length (c .before .before .read-answer .last .1 .1 .1 .1 .1 .1 .0)
+row-whole : (c : tie.After-enum-told) → progress (read c) .variables ≤ length (c .before .before .read-answer .last .1 .1 .1 .1 .0)
 row-whole c = let h = few (read c) .variables in let l = c .before .before .read-answer .ensures .1 in omega arith
 
 read-requires : tie.Need-read-requires
@@ -64,7 +66,7 @@ enum-known-p : tie.Need-enum-known-p
 enum-known-p c = search needs
 
 read-answer-requires : tie.Need-read-answer-requires
-read-answer-requires c κs = (few (c .before .before .before .before .before) .variables, refl)
+read-answer-requires c κs = (few (c .before .before .before) .variables, refl)
 
 enum-known-r-2 : tie.Need-enum-known-r-2
 enum-known-r-2 c = search needs
@@ -105,7 +107,7 @@ judge-all-requires : tie.Need-judge-all-requires
 judge-all-requires c κs =
     let r = c .before .before .before .before .before .before .before .before .before .before .before in
     let p = read r in
-    (few p .variables, few p .lines, p .before .before .read .ensures .1 .lines, c .before .before .before .before .before .before .before .before .before .if2 .left, answer-fits-lines (bytes p) (tables p) (progress p) (file-read p) (start p .args .answer .now) (row r) (row-read r))
+    (few p .lines, p .before .before .read .ensures .1 .heads, p .before .before .read .ensures .1 .bodies, c .before .before .before .before .before .before .before .before .before .if2 .left, answer-fits-lines (bytes p) (tables p) (progress p) (file-read p) (heads-fit p) (start p .args .answer .now) (row r) (row-read r))
 
 slice-reshare-prefix-overall : tie.Need-slice-reshare-prefix-overall
 slice-reshare-prefix-overall c = search needs
@@ -118,12 +120,12 @@ overall-requires c κs = search needs
 
 returns-3 : tie.Need-returns-3
 returns-3 c =
-    let a = c .before .before .before .before .before .before .before .before .before .before .before .before .args in
+    let a = c .before .before .before .before .before .before .before .before .before .before .before .args in
     (ap (checked (a .values .now) (a .verdicts .now)) (refused-constraint (a .constraint .now) (a .answer .now) (a .values .now) (a .verdicts .now) (c .before .r .given .0 .0) (rw (c .before .r .given .1) at (c .before .before .before .read .ensures .0))), tt)
 
 returns-4 : tie.Need-returns-4
 returns-4 c =
-    let p = c .before .before .before .before .before .before .before .before .before in
+    let p = c .before .before .before .before .before .before .before in
     let a = start p .args in
     (ap (checked (a .values .now) (a .verdicts .now)) (refused-answer (bytes p) (a .answer .now) (a .values .now) (a .verdicts .now) (file p) (file-read p) (c .before .r2 .given .0 .0) (rw (c .before .r2 .given .1) at (c .before .before .before .read-answer .ensures .0))), tt)
 
@@ -140,7 +142,7 @@ returns-5 c =
     let a = start p .args in
     let n = variables-held (bytes p) (tables p) (progress p) in
     let m = lines-held (bytes p) (tables p) (progress p) in
-    (rw (c .overall .ensures) (tables-filled (a .values .now) (a .verdicts .now) (file p) (row r) _ _ _ (progress p .variables) (progress p .lines) n m (fresh-held (bytes p) (tables p) (progress p) (row r)) (c .before .before .before .before .before .before .before .before .before .before .before .store-row .ensures) (c .before .before .before .before .judge-all .ensures) ∙ ap (checked (a .values .now) (a .verdicts .now)) (checked-row (bytes p) (a .answer .now) (a .values .now) (a .verdicts .now) (file p) (file-read p) (row r) (row-read r) (progress p .variables) n (c .before .before .before .before .before .before .before .before .before .before .before .before .before .before .before .if1 .left) (progress p .lines) m (c .before .before .before .before .before .before .before .before .before .before .before .before .before .before .if2 .left))), counts-lines (bytes p) (tables p) (progress p) (file-read p))
+    (rw (c .overall .ensures) (tables-filled (a .values .now) (a .verdicts .now) (file p) (row r) _ _ (progress p .variables) (progress p .lines) n m (c .before .before .before .before .before .before .before .before .before .before .before .store-row .ensures) (c .before .before .before .before .judge-all .ensures _ (heads-fit p)) ∙ ap (checked (a .values .now) (a .verdicts .now)) (checked-row (bytes p) (a .answer .now) (a .values .now) (a .verdicts .now) (file p) (file-read p) (row r) (row-read r) (progress p .variables) n (c .before .before .before .before .before .before .before .before .before .before .before .before .before .before .before .if1 .left) (progress p .lines) m (c .before .before .before .before .before .before .before .before .before .before .before .before .before .before .if2 .left))), counts-lines (bytes p) (tables p) (progress p) (file-read p))
 
 pub check-lines-spec : {M : Type 1} → statement M
 check-lines-spec =

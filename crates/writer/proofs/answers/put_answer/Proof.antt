@@ -13,8 +13,8 @@ slice-aggregate-put-bytes c = search needs
 put-bytes-requires : tie.Need-put-bytes-requires
 put-bytes-requires c κs =
     let s = c .before .before .before .before .before in
-    let long = answer-length (s .args .file .now) (s .args .starts .now) (s .args .lens .now) [] (s .args .n) (s .args .row .now) in
-    omega (arith, s .pre .2 [], long)
+    let long = answer-length (s .args .file .now) (s .args .variables .now) (s .args .n) (s .args .row .now) in
+    omega (arith, s .pre .2, long)
 
 satisfiable-requires : tie.Need-satisfiable-requires
 satisfiable-requires c κs = search needs
@@ -25,21 +25,21 @@ slice-aggregate-put-bytes-2 c = search needs
 put-bytes-requires-2 : tie.Need-put-bytes-requires-2
 put-bytes-requires-2 c κs =
     let s = c .before .before .before .before .before .before .before .before .before .before .before in
-    let long = answer-length (s .args .file .now) (s .args .starts .now) (s .args .lens .now) [] (s .args .n) (s .args .row .now) in
-    omega (arith, s .pre .2 [], long, ap length (c .before .before .satisfiable .ensures))
+    let long = answer-length (s .args .file .now) (s .args .variables .now) (s .args .n) (s .args .row .now) in
+    omega (arith, s .pre .2, long, ap length (c .before .before .satisfiable .ensures))
 
 put-byte-requires : tie.Need-put-byte-requires
 put-byte-requires c κs =
     let s = c .before .before .before .before .before .before .before .before .before .before .before .before .before .before .before in
-    let long = answer-length (s .args .file .now) (s .args .starts .now) (s .args .lens .now) [] (s .args .n) (s .args .row .now) in
-    omega (arith, s .pre .2 [], long, ap length (c .before .before .before .before .before .before .satisfiable .ensures))
+    let long = answer-length (s .args .file .now) (s .args .variables .now) (s .args .n) (s .args .row .now) in
+    omega (arith, s .pre .2, long, ap length (c .before .before .before .before .before .before .satisfiable .ensures))
 
 put-values-requires : tie.Need-put-values-requires
 put-values-requires c κs =
     let s = c .before .before .before .before .before .before .before .before .before .before .before .before .before .before .before .before .before .before .before in
-    let long = answer-length (s .args .file .now) (s .args .starts .now) (s .args .lens .now) in
+    let long = answer-length (s .args .file .now) (s .args .variables .now) in
     let word = ap length (c .before .before .before .before .before .before .before .before .before .before .satisfiable .ensures) in
-    (s .pre .0, s .pre .1, λ widths. omega (arith, s .pre .2 widths, long widths (s .args .n) (s .args .row .now), word))
+    (s .pre .0, s .pre .1, omega (arith, s .pre .2, long (s .args .n) (s .args .row .now), word))
 
 same-length : tie.Need-same-length
 same-length c = search needs
@@ -50,7 +50,7 @@ returns c =
     let start = c .before .before .before .before .before .before .before .before .before .before .before .before .before .before .before .before .put-bytes .ensures in
     let word = rw (c .before .before .before .before .before .before .before .before .before .before .before .before .before .satisfiable .ensures) at (c .before .before .before .before .before .before .before .before .before .before .put-bytes2 .ensures) in
     let end = c .before .before .before .before .before .before .put-byte .ensures in
-    λ widths. put-answer _ _ _ widths _ _ (s .pre .2 widths) start word end (c .before .before .put-values .ensures widths)
+    put-answer _ _ _ _ (s .pre .2) start word end (c .before .before .put-values .ensures)
 
 pub put-answer-spec : {M : Type 1} → statement M
 put-answer-spec =

@@ -1,4 +1,3 @@
--- `put_settings` meets its contract. The loop's invariant: the settings of the variables passed are put.
 use Prim.Native.Nat.{_-_}
 use borrow.Author.Needs.{needs}
 use Rattle.writer.proofs.LoopLaws.{Putting, putting-starts, putting-room, putting-more, putting-done}
@@ -6,25 +5,25 @@ use Rattle.writer.proofs.answers.put_settings.Statement.{statement}
 use Rattle.writer.proofs.answers.put_settings.Tie as tie
 
 abbrev Inv-loop : tie.InvT-loop
-Inv-loop file starts lens n row room₀ at i₀ end₀ room i end = Putting file starts lens row n room₀ at room i end
+Inv-loop file variables n row room₀ at i₀ end₀ room i end = Putting file variables row n room₀ at room i end
 
 abbrev μ-loop : tie.MeasureT-loop
-μ-loop file starts lens n row room₀ at i₀ end₀ room i end = n - i
+μ-loop file variables n row room₀ at i₀ end₀ room i end = n - i
 
 loop-holds : tie.Need-loop-holds Inv-loop μ-loop
-loop-holds c = putting-starts _ _ _ _ _ _ _
+loop-holds c = putting-starts _ _ _ _ _ _
 
-mul-start : tie.Need-mul-start Inv-loop μ-loop
-mul-start c = search needs
+mul-word : tie.Need-mul-word Inv-loop μ-loop
+mul-word c = search needs
 
-element-copy-out-start : tie.Need-element-copy-out-start Inv-loop μ-loop
-element-copy-out-start c = search needs
+element-copy-out-word : tie.Need-element-copy-out-word Inv-loop μ-loop
+element-copy-out-word c = search needs
 
-mul-len : tie.Need-mul-len Inv-loop μ-loop
-mul-len c = search needs
+name-start-requires : tie.Need-name-start-requires Inv-loop μ-loop
+name-start-requires c κs = search needs
 
-element-copy-out-len : tie.Need-element-copy-out-len Inv-loop μ-loop
-element-copy-out-len c = search needs
+name-length-requires : tie.Need-name-length-requires Inv-loop μ-loop
+name-length-requires c κs = search needs
 
 mul-put-setting : tie.Need-mul-put-setting Inv-loop μ-loop
 mul-put-setting c = search needs
@@ -34,8 +33,9 @@ shared-slice-read-put-setting c = search needs
 
 put-setting-requires : tie.Need-put-setting-requires Inv-loop μ-loop
 put-setting-requires c κs =
-    let s = c .before .before .before .before .before .before .before .before .before in
-    putting-room (c .before .before .before .before .before .loop .inv) (s .pre .1) (s .pre .2) (c .before .before .before .before .loop-test .taken)
+    let l = c .before .before .before .before .before .before in
+    let s = l .before .before .before .before in
+    rw (c .before .before .name-length .ensures, c .before .before .before .name-start .ensures) (putting-room (l .loop .inv) (s .pre .1) (s .pre .2) (c .before .before .before .before .before .loop-test .taken))
 
 add-i : tie.Need-add-i Inv-loop μ-loop
 add-i c = search needs
@@ -45,9 +45,11 @@ loop-less c = search needs
 
 loop-again : tie.Need-loop-again Inv-loop μ-loop
 loop-again c =
-    let s = c .before .before .before .before .before .before .before .before .before .before .before .before in
     let p = c .before .before .put-setting in
-    putting-more (c .before .before .before .before .before .before .before .before .loop .inv) (s .pre .1) (s .pre .2) (c .before .before .before .before .before .before .before .loop-test .taken) (p .kept .1 .1 .1 .1 .0) (p .ensures)
+    let w = c .before .before .before .before .before in
+    let l = w .before .before .before .before in
+    let s = l .before .before .before .before in
+    putting-more (l .loop .inv) (s .pre .1) (s .pre .2) (w .before .before .before .loop-test .taken) (p .kept .1 .1 .1 .1 .0) (rw (w .name-length .ensures, w .before .name-start .ensures) at (p .ensures))
 
 same-length : tie.Need-same-length Inv-loop μ-loop
 same-length c = c .before .loop .inv .whole
@@ -62,10 +64,10 @@ put-settings-spec =
     Inv-loop
     μ-loop
     loop-holds
-    mul-start
-    element-copy-out-start
-    mul-len
-    element-copy-out-len
+    mul-word
+    element-copy-out-word
+    name-start-requires
+    name-length-requires
     mul-put-setting
     shared-slice-read-put-setting
     put-setting-requires

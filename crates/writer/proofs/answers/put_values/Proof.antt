@@ -6,25 +6,25 @@ use Rattle.writer.proofs.answers.put_values.Statement.{statement}
 use Rattle.writer.proofs.answers.put_values.Tie as tie
 
 returns : tie.Need-returns
-returns c = λ widths. put-no-values _ _ _ widths _ _ (c .if1 .taken) _ _
+returns c = put-no-values _ _ _ _ (c .if1 .taken) _ _
 
 put-byte-requires : tie.Need-put-byte-requires
 put-byte-requires c κs =
     let s = c .before .before .before .before .before in
-    let long = values-length (s .args .file .now) (s .args .starts .now) (s .args .lens .now) [] (s .args .n) (s .args .row .now) (c .before .if1 .left) in
-    omega (arith, s .pre .2 [], long)
+    let long = values-length (s .args .file .now) (s .args .variables .now) (s .args .n) (s .args .row .now) (c .before .if1 .left) in
+    omega (arith, s .pre .2, long)
 
 put-settings-requires : tie.Need-put-settings-requires
 put-settings-requires c κs =
     let s = c .before .before .before .before .before .before .before .before .before in
-    let long = values-length (s .args .file .now) (s .args .starts .now) (s .args .lens .now) in
-    (s .pre .0, s .pre .1, λ widths. omega (arith, s .pre .2 widths, long widths (s .args .n) (s .args .row .now) (c .before .before .before .before .before .if1 .left)))
+    let long = values-length (s .args .file .now) (s .args .variables .now) in
+    (s .pre .0, s .pre .1, omega (arith, s .pre .2, long (s .args .n) (s .args .row .now) (c .before .before .before .before .before .if1 .left)))
 
 put-byte-requires-2 : tie.Need-put-byte-requires-2
 put-byte-requires-2 c κs =
     let s = c .before .before .before .before .before .before .before .before .before .before .before .before .before in
-    let long = values-length (s .args .file .now) (s .args .starts .now) (s .args .lens .now) [] (s .args .n) (s .args .row .now) (c .before .before .before .before .before .before .before .before .before .if1 .left) in
-    omega (arith, s .pre .2 [], long, c .before .before .before .put-settings .ensures [] .ends)
+    let long = values-length (s .args .file .now) (s .args .variables .now) (s .args .n) (s .args .row .now) (c .before .before .before .before .before .before .before .before .before .if1 .left) in
+    omega (arith, s .pre .2, long, c .before .before .before .put-settings .ensures .ends)
 
 same-length : tie.Need-same-length
 same-length c = search needs
@@ -35,7 +35,7 @@ returns-2 c =
     let some = c .before .before .before .before .before .before .before .before .before .before .before .before .if1 .left in
     let first = c .before .before .before .before .before .before .before .before .before .before .put-byte .ensures in
     let values = c .before .before .before .before .before .before .put-settings .ensures in
-    λ widths. put-values _ _ _ widths _ _ some (s .pre .2 widths) first (values widths) (c .before .before .put-byte2 .ensures)
+    put-values _ _ _ _ some (s .pre .2) first values (c .before .before .put-byte2 .ensures)
 
 pub put-values-spec : {M : Type 1} → statement M
 put-values-spec =

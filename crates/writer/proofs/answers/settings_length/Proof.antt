@@ -1,5 +1,4 @@
--- `settings_length` meets its contract. The loop's invariant: the settings of the variables passed are measured.
-use Prim.Native.Nat.{_-_}
+use Prim.Native.Nat.{_+_, _-_}
 use native.Mathlib.Omega.{arith}
 use borrow.Author.Needs.{needs}
 use Rattle.writer.proofs.LoopLaws.{Measuring, measuring-starts, measuring-more, measuring-done}
@@ -7,25 +6,33 @@ use Rattle.writer.proofs.answers.settings_length.Statement.{statement}
 use Rattle.writer.proofs.answers.settings_length.Tie as tie
 
 abbrev Inv-loop : tie.InvT-loop
-Inv-loop file starts lens n row i₀ length₀ i length = Measuring file starts lens row n i length
+Inv-loop file variables n row i₀ length₀ i length = Measuring file variables row n i length
 
 abbrev μ-loop : tie.MeasureT-loop
-μ-loop file starts lens n row i₀ length₀ i length = n - i
+μ-loop file variables n row i₀ length₀ i length = n - i
+
+-- with the next setting
+more : (c : tie.After-setting-length Inv-loop μ-loop) → let l = c .before .before .before .before .before .before in let a = l .before .before .before .args in Measuring (a .file .now) (a .variables .now) (a .row .now) (a .n) (l .loop .i + 1) (l .loop .length + c .setting-length .result)
+more c =
+    let w = c .before .before in
+    let l = w .before .before .before .before in
+    let s = l .before .before .before in
+    measuring-more (l .loop .inv) (s .pre .2) (s .pre .0) (w .before .before .before .loop-test .taken) (rw (w .name-length .ensures, w .before .name-start .ensures) at (c .setting-length .ensures))
 
 loop-holds : tie.Need-loop-holds Inv-loop μ-loop
-loop-holds c = measuring-starts _ _ _ _ _
+loop-holds c = measuring-starts _ _ _ _
 
-mul-start : tie.Need-mul-start Inv-loop μ-loop
-mul-start c = search needs
+mul-word : tie.Need-mul-word Inv-loop μ-loop
+mul-word c = search needs
 
-element-copy-out-start : tie.Need-element-copy-out-start Inv-loop μ-loop
-element-copy-out-start c = search needs
+element-copy-out-word : tie.Need-element-copy-out-word Inv-loop μ-loop
+element-copy-out-word c = search needs
 
-mul-len : tie.Need-mul-len Inv-loop μ-loop
-mul-len c = search needs
+name-start-requires : tie.Need-name-start-requires Inv-loop μ-loop
+name-start-requires c κs = search needs
 
-element-copy-out-len : tie.Need-element-copy-out-len Inv-loop μ-loop
-element-copy-out-len c = search needs
+name-length-requires : tie.Need-name-length-requires Inv-loop μ-loop
+name-length-requires c κs = search needs
 
 mul-setting-length : tie.Need-mul-setting-length Inv-loop μ-loop
 mul-setting-length c = search needs
@@ -37,9 +44,7 @@ setting-length-requires : tie.Need-setting-length-requires Inv-loop μ-loop
 setting-length-requires c κs = search needs
 
 add-length : tie.Need-add-length Inv-loop μ-loop
-add-length c =
-    let s = c .before .before .before .before .before .before .before .before in
-    omega (arith, measuring-more (c .before .before .before .before .before .loop .inv) (s .pre .2) (s .pre .0) (c .before .before .before .before .loop-test .taken) (c .setting-length .ensures) .bounded)
+add-length c = omega (arith, more c .bounded)
 
 add-i : tie.Need-add-i Inv-loop μ-loop
 add-i c = search needs
@@ -48,9 +53,7 @@ loop-less : tie.Need-loop-less Inv-loop μ-loop
 loop-less c = search needs
 
 loop-again : tie.Need-loop-again Inv-loop μ-loop
-loop-again c =
-    let s = c .before .before .before .before .before .before .before .before in
-    measuring-more (c .before .before .before .before .before .loop .inv) (s .pre .2) (s .pre .0) (c .before .before .before .before .loop-test .taken) (c .setting-length .ensures)
+loop-again c = more c
 
 returns : tie.Need-returns Inv-loop μ-loop
 returns c = (measuring-done (c .before .loop .inv) (c .loop-test .left), omega arith)
@@ -62,10 +65,10 @@ settings-length-spec =
     Inv-loop
     μ-loop
     loop-holds
-    mul-start
-    element-copy-out-start
-    mul-len
-    element-copy-out-len
+    mul-word
+    element-copy-out-word
+    name-start-requires
+    name-length-requires
     mul-setting-length
     shared-slice-read-setting-length
     setting-length-requires
