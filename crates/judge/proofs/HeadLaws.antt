@@ -6,22 +6,18 @@ use mathlib.Core.List.{List}
 use native.Mathlib.Omega.{arith}
 use lib.Dec.{leb}
 use lib.ListN.{getD}
-use borrow.Author.Tests.{eq-eqb, leb-true, leb-false}
+use borrow.Author.Tests.{leb-true, leb-false}
 use Rattle.arithmetic.specs.Rules.{i1}
 use Rattle.constraint.specs.declared.Operand.{Operand}
 use Rattle.constraint.specs.declared.Operand.the-variants.{Absent, Var, Const}
 use Rattle.constraint.specs.File.{Variable, operandWord, target}
 use Rattle.constraint.specs.TypeRules.{ruleWord}
 use Rattle.store.specs.Tables.{lineBodies, variableMark, operandOf, headWidth, headAt, bodyAt, operandIn, lineIn, HeadsFit}
-use Rattle.store.proofs.LineTableLaws.{operand-variable, operand-constant}
+use Rattle.store.proofs.LineTableLaws.{operand-absent, operand-variable, operand-constant}
 use Rattle.judge.specs.Judge.{resultOf, judge}
 
 -- ---- the operand of a head and a body
 module _ (head body : ℕ) where
-  pub of-none : head ≡ 0 → operandOf head body ≡ Absent
-  unfolding operandOf
-  of-none e = rw (eq-eqb head 0 e)
-
   pub of-variable : leb variableMark head ≡ true → operandOf head body ≡ Var body
   of-variable e = operand-variable head body (leb-true variableMark head e)
 
@@ -42,12 +38,12 @@ module _ (row heads bodies : List ℕ) (k slot : ℕ) where
 
     pub word-absent : headAt heads k slot ≡ 0 → (xs : List Variable) → HeadsFit xs heads bodies k → record { width = headWidth (headAt heads k slot); value = 0 } ≡ operandWord xs row (operandIn heads bodies k slot)
     unfolding operandWord ruleWord operandIn
-    word-absent e xs f = rw (← (f slot h), of-none (headAt heads k slot) (bodyAt bodies k slot) e)
+    word-absent e xs f = rw (← (f slot h), operand-absent (headAt heads k slot) (bodyAt bodies k slot) e)
 
   -- what it asks of the operator, as an output
   pub target-absent : headAt heads k slot ≡ 0 → (xs : List Variable) → record { width = i1; value = 1 } ≡ target xs row (operandIn heads bodies k slot)
   unfolding target operandIn
-  target-absent e xs = rw (of-none (headAt heads k slot) (bodyAt bodies k slot) e)
+  target-absent e xs = rw (operand-absent (headAt heads k slot) (bodyAt bodies k slot) e)
 
   pub target-there : (t : Bool) → leb variableMark (headAt heads k slot) ≡ t → (headAt heads k slot ≡ 0 → ⊥) → (xs : List Variable) → operandWord xs row (operandIn heads bodies k slot) ≡ target xs row (operandIn heads bodies k slot)
   unfolding target operandWord operandIn

@@ -15,7 +15,8 @@ use Rattle.constraint.specs.declared.Operand.the-variants.{Absent, Var, Const}
 use Rattle.constraint.specs.declared.Line.{Line}
 use Rattle.constraint.specs.File.{Variable, File, operandWord, target}
 use Rattle.store.specs.Tables.{variableMark, operandOf, headAt, bodyAt, operandIn, lineIn}
-use Rattle.judge.proofs.HeadLaws.{of-none, of-variable, of-constant}
+use Rattle.store.proofs.LineTableLaws.{operand-absent}
+use Rattle.judge.proofs.HeadLaws.{of-variable, of-constant}
 use Rattle.judge.specs.Judge.{verdictViolated, verdictHolds, verdictDisregarded, resultOf, judged, judge, verdictsOf, freshVerdicts}
 use Rattle.moves.specs.Change.{isVariable, names, remade, renewed}
 
@@ -23,7 +24,7 @@ use Rattle.moves.specs.Change.{isVariable, names, remade, renewed}
 named-by : (i head body : ℕ) (t z : Bool) → leb variableMark head ≡ t → eqb head 0 ≡ z → (t && eqb i body) ≡ isVariable i (operandOf head body)
 unfolding isVariable
 named-by i head body true z e q = rw (of-variable head body e)
-named-by i head body false true e q = rw (of-none head body (eqb-true head 0 q))
+named-by i head body false true e q = rw (operand-absent head body (eqb-true head 0 q))
 named-by i head body false false e q = rw (of-constant head body e (eqb-false head 0 q))
 
 pub named-at : (i : ℕ) (heads bodies : List ℕ) (k slot : ℕ) → (leb variableMark (headAt heads k slot) && eqb i (bodyAt bodies k slot)) ≡ isVariable i (operandIn heads bodies k slot)

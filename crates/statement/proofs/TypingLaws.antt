@@ -1,5 +1,5 @@
 -- Operands by their heads, as the type rules see them. Assumes nothing.
-use mathlib.Core.Path.{_≡_, refl, sym, _∙_}
+use mathlib.Core.Path.{_≡_, sym, _∙_}
 use mathlib.Core.Bool.{Bool, true, false, _&&_}
 use mathlib.Core.List.{List}
 use Prim.Native.Nat.{ℕ, _≤_, _<_}
@@ -14,14 +14,10 @@ use Rattle.constraint.specs.declared.Operand.the-variants.{Absent, Var, Const}
 use Rattle.constraint.specs.File.{Variable}
 use Rattle.constraint.specs.TypeRules.{ruleWord, resultWidth, isConstant, isPredicate, predicateRule}
 use Rattle.store.specs.Tables.{variableMark, operandOf, headWidth}
-use Rattle.store.proofs.LineTableLaws.{operand-variable, operand-constant}
+use Rattle.store.proofs.LineTableLaws.{operand-absent, operand-variable, operand-constant}
 
 differ : _≡_ {A = Bool} true false → ⊥
 differ e = let z : _≡_ {A = ℕ} 0 1 = cc e in omega arith
-
-pub operand-absent : (body : ℕ) → operandOf 0 body ≡ Absent
-unfolding operandOf
-operand-absent body = refl
 
 -- what a head says of its operand
 pub data HeadOf (head body : ℕ) : Type 0 where
@@ -31,7 +27,7 @@ pub data HeadOf (head body : ℕ) : Type 0 where
 
 pub head-of : (head body : ℕ) → HeadOf head body
 head-of head body = elim (ℕ-discrete head 0) [
-  | yes e ↦ absent e (rw e (operand-absent body))
+  | yes e ↦ absent e (operand-absent head body e)
   | no d ↦ elim (decLt head variableMark) [
     | yes h ↦ let l : 1 ≤ head = omega arith in constant l h (operand-constant head body l h)
     | no h ↦ let l : variableMark ≤ head = omega arith in variable l (operand-variable head body l)
@@ -41,7 +37,7 @@ head-of head body = elim (ℕ-discrete head 0) [
 module _ (head body : ℕ) (op : Operator) (ws : List Word) where
   pub predicate-absent : head ≡ 0 → isPredicate op ws ≡ predicateRule (operandOf head body) op ws
   unfolding predicateRule
-  predicate-absent e = rw (e, operand-absent body)
+  predicate-absent e = rw (operand-absent head body e)
 
   pub predicate-there : ¬ (head ≡ 0) → true ≡ predicateRule (operandOf head body) op ws
   unfolding predicateRule
@@ -82,7 +78,7 @@ module _ (xs : List Variable) (head body : ℕ) (fits : ruleWord xs (operandOf h
 
 pub result-absent : (xs : List Variable) (head body : ℕ) → head ≡ 0 → i1 ≡ resultWidth xs (operandOf head body)
 unfolding resultWidth
-result-absent xs head body e = rw (e, operand-absent body)
+result-absent xs head body e = rw (operand-absent head body e)
 
 pub constant-is : (head body : ℕ) → isConstant (operandOf head body) ≡ (ltb 0 head && ltb head variableMark)
 unfolding isConstant

@@ -211,6 +211,10 @@ unfolding withoutOperands
 kept-cleared heads bodies n = kept-head (kept-head (kept-head (kept-head (kept-same heads bodies n) 0 0) 1 0) 2 0) 3 0
 
 -- ---- heads
+pub operand-absent : (head body : ℕ) → head ≡ 0 → operandOf head body ≡ Absent
+unfolding operandOf
+operand-absent head body e = rw e
+
 pub operand-variable : (head i : ℕ) → variableMark ≤ head → operandOf head i ≡ Var i
 unfolding operandOf
 operand-variable head i h = rw (ne-eqb head 0 (omega arith), le-ltb head variableMark h)

@@ -173,7 +173,23 @@ fn block(text: &[u8], at: usize) -> usize
     c + step(is_printing(text[c]), 1)
 }
 
-// Passes over printing bytes from `at` on, most of a line: 16 at a time, and the last of the text one by one.
+// Passes over printing bytes from `at` on, one by one: the last of the text.
+fn few_printing(text: &[u8], at: usize) -> usize
+    requires { ⌜ at ≤ length (now text) ⌝ }
+    ensures { λ r. ⌜ Scanned (isOf Allowed) (now (text .entry)) at r ⌝ }
+{
+    let mut i = at;
+    while i < text.len() {
+        if is_printing(text[i]) {
+            i += 1;
+        } else {
+            return i;
+        }
+    }
+    i
+}
+
+// Passes over printing bytes from `at` on, most of a line: 16 at a time.
 fn printing(text: &[u8], at: usize) -> usize
     requires { ⌜ at ≤ length (now text) ⌝ }
     ensures { λ r. ⌜ Scanned (isOf Allowed) (now (text .entry)) at r ⌝ }
@@ -186,14 +202,7 @@ fn printing(text: &[u8], at: usize) -> usize
             return block(text, i);
         }
     }
-    while i < text.len() {
-        if is_printing(text[i]) {
-            i += 1;
-        } else {
-            return i;
-        }
-    }
-    i
+    few_printing(text, i)
 }
 
 // As `scan` does for the bytes allowed in a line.
