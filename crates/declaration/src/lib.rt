@@ -27,6 +27,6 @@ pub enum HeaderLine {
 // What the token of such a line says, or the number of its refusal.
 pub enum HeaderToken {
     OfEdition(Edition),
-    OfNumber(u64),
+    OfNumber(u8),
     Wrong(u8),
 }

@@ -17,9 +17,10 @@ pub enum Version {
     HasVersion(Edition),
 }
 
+// The number is a byte: a word would leave a gap in `Progress` that is copied with every line.
 pub enum Expectation {
     NoExpectation,
-    HasExpectation(u64),
+    HasExpectation(u8),
 }
 
 // As much of a file as is read; its variables and lines stand in the tables.
@@ -34,7 +35,7 @@ pub struct Progress {
 pub enum Added {
     NoPart,
     VersionPart(Edition),
-    ExpectationPart(u64),
+    ExpectationPart(u8),
     VariablesPart(usize),
     LinePart,
     Fault(Refusal),
