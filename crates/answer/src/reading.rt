@@ -22,8 +22,8 @@ ghost use Rattle.refusal.specs.Lists.{isThere, every};
 ghost use Rattle.refusal.specs.declared.Subject.the-variants.{Answer};
 ghost use Rattle.text.specs.Lines.{textLines};
 ghost use Rattle.text.specs.Reading.{readAnyLine, readLines};
-ghost use Rattle.text.specs.declared.Class.the-variants.{Allowed};
-ghost use Rattle.text.specs.Scan.{isOf, lineAt};
+ghost use Rattle.text.specs.Bytes.{isAllowed};
+ghost use Rattle.text.specs.Scan.{lineAt};
 ghost use Rattle.store.specs.Tables.{variablesIn};
 ghost use Rattle.answer.specs.Read.{settingsOf, answerKind, readAnswerLine, allSet, readAnswer};
 ghost use Rattle.answer.specs.Internal.{entriesIn, SettingsSized, answerStep, answerResult};
@@ -78,7 +78,7 @@ fn read_any_line(
     values: &mut [u64; Edition::VARIABLES],
     solved: bool,
 ) -> AnswerProgress
-    requires { ⌜ (at ≤ length (now line)) × (n ≤ maxVariables) × SettingsSized (now flags) (now values) × (every (isOf Allowed) (drop at (now line)) ≡ true) ⌝ }
+    requires { ⌜ (at ≤ length (now line)) × (n ≤ maxVariables) × SettingsSized (now flags) (now values) × (every isAllowed (drop at (now line)) ≡ true) ⌝ }
     ensures { λ r. ⌜ ((next : ℕ) → answerStep (entriesIn (now (flags .exit)) (now (values .exit)) n) r ≡ readAnyLine Answer (readAnswerLine (variablesIn (now (file .entry)) (now (variables .entry)) n)) (settingsOf solved (entriesIn (now (flags .entry)) (now (values .entry)) n)) (lineAt (now (line .entry)) at next)) × SettingsSized (now (flags .exit)) (now (values .exit)) ⌝ }
 {
     if all(line, at, Class::Space) {

@@ -31,8 +31,8 @@ ghost use Rattle.refusal.specs.Lists.{every};
 ghost use Rattle.refusal.specs.declared.Subject.the-variants.{Constraint as TheConstraint};
 ghost use Rattle.text.specs.Lines.{textLines};
 ghost use Rattle.text.specs.Reading.{readAnyLine, readLines};
-ghost use Rattle.text.specs.declared.Class.the-variants.{Allowed};
-ghost use Rattle.text.specs.Scan.{isOf, lineAt};
+ghost use Rattle.text.specs.Bytes.{isAllowed};
+ghost use Rattle.text.specs.Scan.{lineAt};
 ghost use Rattle.constraint.specs.File.{emptyFile};
 ghost use Rattle.constraint.specs.Read.{kindOf, readStatement, addLine, readLine, readFile};
 ghost use Rattle.constraint.specs.Sound.{Distinct};
@@ -137,7 +137,7 @@ fn read_any_line(
     bodies: &mut [u64; TABLE_BODIES],
     p: Progress,
 ) -> Added
-    requires { ⌜ (at ≤ stop) × (stop ≤ length (now file)) × (length (now file) ≤ maxFileBytes) × InTables p × StoreSized (storeOf (now variables) (now heads) (now bodies)) × (length (now guesses) ≡ byteValues) × Distinct (variablesIn (now file) (now variables) (p .variables)) × (every (isOf Allowed) (drop at (take stop (now file))) ≡ true) ⌝ }
+    requires { ⌜ (at ≤ stop) × (stop ≤ length (now file)) × (length (now file) ≤ maxFileBytes) × InTables p × StoreSized (storeOf (now variables) (now heads) (now bodies)) × (length (now guesses) ≡ byteValues) × Distinct (variablesIn (now file) (now variables) (p .variables)) × (every isAllowed (drop at (take stop (now file))) ≡ true) ⌝ }
     ensures { λ r. ⌜ ((next : ℕ) → addedResult (now (file .entry)) (storeOf (now (variables .exit)) (now (heads .exit)) (now (bodies .exit))) p r ≡ readAnyLine TheConstraint readLine (storedFile (now (file .entry)) (storeOf (now (variables .entry)) (now (heads .entry)) (now (bodies .entry))) p) (lineAt (take stop (now (file .entry))) at next)) × StoreSized (storeOf (now (variables .exit)) (now (heads .exit)) (now (bodies .exit))) × (length (now (guesses .exit)) ≡ byteValues) × HasRoom p r × (HeadsInUseFit (now (file .entry)) (storeOf (now (variables .entry)) (now (heads .entry)) (now (bodies .entry))) p → StepHeadsFit (now (file .entry)) (storeOf (now (variables .exit)) (now (heads .exit)) (now (bodies .exit))) (advanced p r)) ⌝ }
 {
     if all(&file[..stop], at, Class::Space) {

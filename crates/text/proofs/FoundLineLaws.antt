@@ -13,10 +13,9 @@ use Rattle.refusal.proofs.ListLaws.{every-weaken, every-broken}
 use Rattle.refusal.proofs.ResultLaws.{never}
 use Rattle.text.specs.Bytes.{frontOf, isLineFeed, isAllowed}
 use Rattle.text.specs.Lines.{TextLine, lineEnd, lineOf}
-use Rattle.text.specs.declared.Class.the-variants.{Allowed}
 use Rattle.text.specs.declared.LineFound.{LineFound}
 use Rattle.text.specs.declared.LineFound.the-variants.{Ends, Faulty}
-use Rattle.text.specs.Scan.{isOf, past, foundLine, lineAt}
+use Rattle.text.specs.Scan.{past, foundLine, lineAt}
 use Rattle.text.proofs.RunLaws.{run-take, run-stop, past-le, past-fails, run-part, every-of-run, scan-place}
 use Rattle.text.proofs.AppendLaws.{run-through, run-front}
 use Rattle.text.proofs.LineLaws.{inLine, lineFrom}
@@ -59,9 +58,8 @@ module _ (r : List ℕ) (h : every isAllowed r ≡ true) (at : ℕ) where
       rw (bytes, every-broken isAllowed r b u a, run-front isAllowed r (b ∷ u) h (run-stop isAllowed (b ∷ u) 0 (omega arith) a))
 
 -- ---- a scan of the allowed bytes from `at` on stops at m: what it finds of the line, by what stands there
-module _ (f : List ℕ) (at m : ℕ) (h : at ≤ length f) (hm : m ≡ past (isOf Allowed) f at) where
+module _ (f : List ℕ) (at m : ℕ) (h : at ≤ length f) (hm : m ≡ past isAllowed f at) where
   stops : at + length (frontOf isAllowed (drop at f)) ≡ m
-  unfolding isOf
   stops = scan-place isAllowed f at m h hm
 
   front : every isAllowed (frontOf isAllowed (drop at f)) ≡ true
@@ -85,7 +83,6 @@ module _ (f : List ℕ) (at m : ℕ) (h : at ≤ length f) (hm : m ≡ past (isO
     byte = rw (add-one, drop-cons f m 0 l)
 
     no-pass : isAllowed (getD f m 0) ≡ false
-    unfolding isOf
     no-pass = rw (← hm) at (past-fails isAllowed f at (rw hm at l))
 
     pub stops-feed : getD f m 0 ≡ 10 → Ends m (m + 1) ≡ foundLine (lineFrom f at)
@@ -103,7 +100,7 @@ pub record Ended (f : List ℕ) (at stop next : ℕ) : Type 0 where
   pub forward : at < next
   pub inside : next ≤ length f
   pub line : lineFrom f at ≡ lineAt (take stop f) at next
-  pub allowed : every (isOf Allowed) (drop at (take stop f)) ≡ true
+  pub allowed : every isAllowed (drop at (take stop f)) ≡ true
 
 module _ (f : List ℕ) (at : ℕ) (h : at < length f) where
   -- the content of the line, by where it ends
@@ -112,7 +109,7 @@ module _ (f : List ℕ) (at : ℕ) (h : at < length f) where
   content = run-part inLine f at (omega arith)
 
   ended : every isAllowed (lineFrom f at .bytes) ≡ true → Ended f at (lineEnd (lineFrom f at)) (lineFrom f at .next)
-  unfolding lineOf isOf past
+  unfolding lineOf past
   ended e =
       let n = suc (length (frontOf inLine (drop at f))) in
       let l = length-drop at f in

@@ -1,7 +1,7 @@
 -- Laws that belong to no one function.
 pub mod RunLaws
 pub mod ScanLaws
-pub mod PrintLaws
+pub mod StopLaws
 pub mod LineLaws
 pub mod TokenLaws
 pub mod NumberLaws

@@ -14,7 +14,7 @@ use Rattle.refusal.specs.Lists.{every}
 use Rattle.refusal.specs.Numbers.{fileTooLong, byteNotAllowed}
 use Rattle.refusal.specs.Result.{Result, accepted, refused, refusal, _>>=_, _>>_}
 use Rattle.refusal.proofs.ResultLaws.{Yields, yields-accepted, yields-refused, yields-cond, yields-bind, yields-ensure, bind-accepted, ensure-accepted}
-use Rattle.text.specs.declared.Class.the-variants.{Space, Allowed}
+use Rattle.text.specs.declared.Class.the-variants.{Space}
 use Rattle.text.specs.declared.LineFound.the-variants.{Faulty}
 use Rattle.text.specs.Bytes.{isSpace, isAllowed}
 use Rattle.text.specs.Lines.{TextLine, linesFrom, textLines, Token}
@@ -60,7 +60,7 @@ module _ {State : Type 0} {P : State → Type 0} (file : Subject) (readLine : St
 
 module _ {State : Type 0} (file : Subject) (readLine : State → TextLine → Result State) where
   -- ---- any line whose bytes are allowed
-  module _ (s : State) (text : List ℕ) (at next : ℕ) (allowed : every (isOf Allowed) (drop at text) ≡ true) where
+  module _ (s : State) (text : List ℕ) (at next : ℕ) (allowed : every isAllowed (drop at text) ≡ true) where
     pub fine-blank : every (isOf Space) (drop at text) ≡ true → accepted s ≡ readAnyLine file readLine s (lineAt text at next)
     unfolding readAnyLine isOf
     fine-blank b = rw (allowed, b)

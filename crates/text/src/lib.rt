@@ -13,7 +13,7 @@ pub enum Class {
     Solid,
     Digit,
     NameByte,
-    Allowed,
+    Printing,
 }
 
 // A token: where it starts, and where it stops.

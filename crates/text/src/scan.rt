@@ -4,15 +4,15 @@ use super::LineFound;
 use super::NextToken;
 use super::Span;
 ghost use mathlib.Core.Path.{_≡_};
-ghost use mathlib.Core.Bool.{true, cond};
-ghost use Prim.Native.Nat.{_+_, _≤_};
+ghost use mathlib.Core.Bool.{true};
+ghost use Prim.Native.Nat.{_+_, _^_, _≤_, _<_};
 ghost use lib.ListN.{length, drop};
 ghost use Rattle.refusal.specs.Lists.{every};
 ghost use Rattle.text.specs.Bytes.{isSpace, isDigit, isLetter, isNameByte, isPrinting, isAllowed};
 ghost use Rattle.text.specs.Lines.{lineOf, tokensFrom, leads as leadsBy};
 ghost use Rattle.text.specs.Spelling.{isName};
-ghost use Rattle.text.specs.declared.Class.the-variants.{Space, NameByte, Allowed};
-ghost use Rattle.text.specs.Scan.{isOf, past, Scanned, printAt, foundLine, endsToken, tokensBy, Within};
+ghost use Rattle.text.specs.declared.Class.the-variants.{Space, NameByte, Printing};
+ghost use Rattle.text.specs.Scan.{isOf, past, stopDigit, stopsAt, foundLine, endsToken, tokensBy, Within};
 
 fn is_space(b: u8) -> bool
     ensures { λ r. ⌜ r ≡ isSpace b ⌝ }
@@ -48,12 +48,6 @@ fn is_printing(b: u8) -> bool
     (b' ' <= b) & (b <= b'~')
 }
 
-fn is_allowed(b: u8) -> bool
-    ensures { λ r. ⌜ r ≡ isAllowed b ⌝ }
-{
-    (b == b'\t') | is_printing(b)
-}
-
 fn is_of(class: Class, b: u8) -> bool
     ensures { λ r. ⌜ r ≡ isOf class b ⌝ }
 {
@@ -63,7 +57,7 @@ fn is_of(class: Class, b: u8) -> bool
         Class::Solid => !is_space(b),
         Class::Digit => is_digit(b),
         Class::NameByte => is_name_byte(b),
-        Class::Allowed => is_allowed(b),
+        Class::Printing => is_printing(b),
     }
 }
 
@@ -125,94 +119,68 @@ pub fn token_ends(line: &[u8], at: usize) -> bool
     is_space(line[at])
 }
 
-// Whether printing bytes stand at `at`: 2, 4, 8 or 16. All are tested, so that the tests are one piece of vector code.
-fn print2(text: &[u8], at: usize) -> bool
+// 1 for a byte that is not printing, 0 for one that is.
+fn stop_digit(b: u8) -> u32
+    ensures { λ r. ⌜ (r ≡ stopDigit b) × (r < 2) ⌝ }
+{
+    if is_printing(b) { 0 } else { 1 }
+}
+
+// Which bytes at `at` are not printing, of 2, 4, 8 or 16: a binary digit for each, the first byte's lowest.
+// The compiler makes vector code of it.
+fn stops2(text: &[u8], at: usize) -> u32
     requires { ⌜ at + 2 ≤ length (now text) ⌝ }
-    ensures { λ r. ⌜ r ≡ printAt (now (text .entry)) at 2 ⌝ }
+    ensures { λ r. ⌜ (r ≡ stopsAt (now (text .entry)) at 2) × (r < 2 ^ 2) ⌝ }
 {
     let next = at + 1;
-    is_printing(text[at]) & is_printing(text[next])
+    stop_digit(text[at]) + 2 * stop_digit(text[next])
 }
 
-fn print4(text: &[u8], at: usize) -> bool
+fn stops4(text: &[u8], at: usize) -> u32
     requires { ⌜ at + 4 ≤ length (now text) ⌝ }
-    ensures { λ r. ⌜ r ≡ printAt (now (text .entry)) at 4 ⌝ }
+    ensures { λ r. ⌜ (r ≡ stopsAt (now (text .entry)) at 4) × (r < 2 ^ 4) ⌝ }
 {
-    print2(text, at) & print2(text, at + 2)
+    stops2(text, at) + 4 * stops2(text, at + 2)
 }
 
-fn print8(text: &[u8], at: usize) -> bool
+fn stops8(text: &[u8], at: usize) -> u32
     requires { ⌜ at + 8 ≤ length (now text) ⌝ }
-    ensures { λ r. ⌜ r ≡ printAt (now (text .entry)) at 8 ⌝ }
+    ensures { λ r. ⌜ (r ≡ stopsAt (now (text .entry)) at 8) × (r < 2 ^ 8) ⌝ }
 {
-    print4(text, at) & print4(text, at + 4)
+    stops4(text, at) + 16 * stops4(text, at + 4)
 }
 
-fn print16(text: &[u8], at: usize) -> bool
+fn stops16(text: &[u8], at: usize) -> u32
     requires { ⌜ at + 16 ≤ length (now text) ⌝ }
-    ensures { λ r. ⌜ r ≡ printAt (now (text .entry)) at 16 ⌝ }
+    ensures { λ r. ⌜ r ≡ stopsAt (now (text .entry)) at 16 ⌝ }
 {
-    print8(text, at) & print8(text, at + 8)
+    stops8(text, at) + 256 * stops8(text, at + 8)
 }
 
-// A step of n, or none.
-fn step(on: bool, n: usize) -> usize
-    ensures { λ r. ⌜ (r ≡ cond on n 0) × (r ≤ n) ⌝ }
-{
-    if on { n } else { 0 }
-}
-
-// Passes over the printing bytes from `at` on, where the next 16 are not all printing.
-fn block(text: &[u8], at: usize) -> usize
-    requires { ⌜ at + 16 ≤ length (now text) ⌝ }
-    ensures { λ r. ⌜ Scanned (isOf Allowed) (now (text .entry)) at r ⌝ }
-{
-    let a = at + step(print8(text, at), 8);
-    let b = a + step(print4(text, a), 4);
-    let c = b + step(print2(text, b), 2);
-    c + step(is_printing(text[c]), 1)
-}
-
-// Passes over printing bytes from `at` on, one by one: the last of the text.
-fn few_printing(text: &[u8], at: usize) -> usize
-    requires { ⌜ at ≤ length (now text) ⌝ }
-    ensures { λ r. ⌜ Scanned (isOf Allowed) (now (text .entry)) at r ⌝ }
-{
-    let mut i = at;
-    while i < text.len() {
-        if is_printing(text[i]) {
-            i += 1;
-        } else {
-            return i;
-        }
-    }
-    i
-}
-
-// Passes over printing bytes from `at` on, most of a line: 16 at a time.
+// As `scan` does for printing bytes, most of a line: 16 at a time.
 fn printing(text: &[u8], at: usize) -> usize
     requires { ⌜ at ≤ length (now text) ⌝ }
-    ensures { λ r. ⌜ Scanned (isOf Allowed) (now (text .entry)) at r ⌝ }
+    ensures { λ r. ⌜ r ≡ past (isOf Printing) (now (text .entry)) at ⌝ }
 {
     let mut i = at;
     while 16 <= text.len() - i {
-        if print16(text, i) {
-            i += 16;
-        } else {
-            return block(text, i);
+        let stops = stops16(text, i);
+        if stops != 0 {
+            return i + u32::trailing_zeros(stops) as usize;
         }
+        i += 16;
     }
-    few_printing(text, i)
+    scan(text, i, Class::Printing)
 }
 
-// As `scan` does for the bytes allowed in a line.
+// Where the bytes allowed in a line stop: runs of printing bytes, and tabs between them.
 fn allowed(text: &[u8], at: usize) -> usize
     requires { ⌜ at ≤ length (now text) ⌝ }
-    ensures { λ r. ⌜ r ≡ past (isOf Allowed) (now (text .entry)) at ⌝ }
+    ensures { λ r. ⌜ r ≡ past isAllowed (now (text .entry)) at ⌝ }
 {
     let mut i = printing(text, at);
     while i < text.len() {
-        if is_allowed(text[i]) {
+        if text[i] == b'\t' {
             let next = i + 1;
             i = printing(text, next);
         } else {

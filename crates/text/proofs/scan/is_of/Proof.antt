@@ -34,8 +34,8 @@ is-name-byte-requires c κs = search needs
 enum-told-5 : tie.Need-enum-told-5
 enum-told-5 c = search needs
 
-is-allowed-requires : tie.Need-is-allowed-requires
-is-allowed-requires c κs = search needs
+is-printing-requires : tie.Need-is-printing-requires
+is-printing-requires c κs = search needs
 
 returns : tie.Need-returns
 unfolding isOf
@@ -59,7 +59,7 @@ returns-5 c = rw (c .before .enum-told4 .given .1, c .is-name-byte .ensures)
 
 returns-6 : tie.Need-returns-6
 unfolding isOf
-returns-6 c = rw (c .before .enum-told5 .given .1, c .is-allowed .ensures)
+returns-6 c = rw (c .before .enum-told5 .given .1, c .is-printing .ensures)
 
 pub is-of-spec : {M : Type 1} → statement M
 is-of-spec =
@@ -75,7 +75,7 @@ is-of-spec =
     enum-told-4
     is-name-byte-requires
     enum-told-5
-    is-allowed-requires
+    is-printing-requires
     returns
     returns-2
     returns-3
