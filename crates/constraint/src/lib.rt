@@ -5,6 +5,7 @@ use arithmetic::Word;
 pub mod claims;
 pub mod refusals;
 
+// Operands and lines as the definitions see them; in code they stand in the tables of `store`.
 pub enum Operand {
     // None: the output of a `p` line, and what an operator does not take.
     Absent,

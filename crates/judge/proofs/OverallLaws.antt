@@ -1,22 +1,39 @@
 -- What the overall verdict says of the lines. Assumes nothing.
-use Prim.Native.Nat.{ℕ, suc, _≤_}
+use Prim.Native.Nat.{ℕ, suc, _+_, _≤_, _<_}
 use mathlib.Core.Path.{_≡_, refl, ap}
-use mathlib.Core.Bool.{Bool, true, false, cond}
+use mathlib.Core.Bool.{Bool, true, false, cond, _||_}
 use mathlib.Core.List.{List, [], _∷_}
 use mathlib.Core.Option.{Option, none, some}
 use native.Mathlib.Omega.{arith}
 use lib.Dec.{eqb}
-use lib.ListN.{length}
+use lib.ListN.{length, getD, drop}
 use borrow.Author.Tests.{eqb-true, eq-eqb}
-use Rattle.refusal.specs.Lists.{firstFrom}
+use Rattle.refusal.specs.Lists.{firstFrom, isThere}
 use Rattle.refusal.proofs.ResultLaws.{never}
-use Rattle.refusal.proofs.ListLaws.{first-none, first-below, first-from}
+use Rattle.refusal.proofs.ListLaws.{first-none, first-below, first-from, first-here, first-later, first-nowhere}
 use Rattle.constraint.specs.declared.Line.{Line}
 use Rattle.constraint.specs.File.{Variable, target}
 use Rattle.constraint.specs.Sound.{Each}
 use Rattle.judge.specs.declared.Overall.{Overall}
 use Rattle.judge.specs.declared.Overall.the-variants.{Satisfied, Violated, Disregarded}
 use Rattle.judge.specs.Judge.{verdictViolated, verdictHolds, verdictDisregarded, resultOf, judged, judge, verdictsOf, firstVerdict, overallBy, overallOf}
+
+-- ---- a verdict that was found, or is among those from i on
+or-false : (t : Bool) → t ≡ (t || false)
+or-false true = refl
+or-false false = refl
+
+module _ (v : ℕ) (vs : List ℕ) (i : ℕ) (found : Bool) where
+  pub found-more : i < length vs → (found || eqb v (getD vs i 0) || isThere (firstFrom (eqb v) (i + 1 + 1) (drop (i + 1) vs))) ≡ (found || isThere (firstFrom (eqb v) (i + 1) (drop i vs)))
+  found-more h = go found (eqb v (getD vs i 0)) refl
+    where
+      go : (f t : Bool) → eqb v (getD vs i 0) ≡ t → (f || t || isThere (firstFrom (eqb v) (i + 1 + 1) (drop (i + 1) vs))) ≡ (f || isThere (firstFrom (eqb v) (i + 1) (drop i vs)))
+      go true t e = refl
+      go false true e = rw (first-here (eqb v) (i + 1) vs i 0 h e)
+      go false false e = rw (first-later (eqb v) (i + 1) vs i 0 h e)
+
+  pub found-all : length vs ≤ i → found ≡ (found || isThere (firstFrom (eqb v) (i + 1) (drop i vs)))
+  found-all h = rw (first-nowhere (eqb v) (i + 1) vs i h) (or-false found)
 
 -- ---- the place of a first verdict
 -- a line of these verdicts, from 1

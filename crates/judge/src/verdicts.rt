@@ -3,13 +3,30 @@ use super::Judged;
 use super::Overall;
 use store::Found;
 ghost use mathlib.Core.Path.{_≡_};
+ghost use Rattle.refusal.specs.Lists.{isThere};
 ghost use Rattle.store.specs.Tables.{place};
 ghost use Rattle.judge.specs.Judge.{firstVerdict, overallOf, overallNumber};
+
+// Whether there is a verdict v. All are looked at: the compiler makes vector code of a loop that does not stop.
+fn has_verdict(verdicts: &[u8], v: u8) -> bool
+    ensures { λ r. ⌜ r ≡ isThere (firstVerdict v (now (verdicts .entry))) ⌝ }
+{
+    let mut found = false;
+    let mut i = 0;
+    while i < verdicts.len() {
+        found = found | (v == verdicts[i]);
+        i += 1;
+    }
+    found
+}
 
 // The line, from 1, of the first verdict v.
 fn first_verdict(verdicts: &[u8], v: u8) -> Found
     ensures { λ r. ⌜ place r ≡ firstVerdict v (now (verdicts .entry)) ⌝ }
 {
+    if !has_verdict(verdicts, v) {
+        return Found::Nowhere;
+    }
     let mut i = 0;
     while i < verdicts.len() {
         if v == verdicts[i] {
