@@ -7,7 +7,7 @@
  * A pointer may be null only where its length is 0. A range that a call writes
  * (values, verdicts) must not overlap any other range of the same call: what
  * happens then is outside what is proved. The calls keep no state, so threads
- * may make them at the same time. Each needs some 90 KB of stack.
+ * may make them at the same time. Each needs some 50 KB of stack.
  */
 #ifndef SPEAR_H
 #define SPEAR_H
