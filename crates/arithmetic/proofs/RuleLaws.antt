@@ -1,6 +1,6 @@
 -- What the tests of the type rules say as plain facts, and how programs compute them. Assumes nothing.
 use mathlib.Core.Path.{_≡_, refl, sym, _∙_, subst}
-use mathlib.Core.Bool.{Bool, true, false, _&&_, _||_}
+use mathlib.Core.Bool.{Bool, true, _&&_, _||_}
 use mathlib.Core.List.{List, [], _∷_}
 use Prim.Native.Nat.{ℕ, _+_, _-_, _/_, _^_, _≤_, _<_}
 use native.Mathlib.Decide.{decLt, ℕ-discrete}
@@ -12,7 +12,7 @@ use borrow.Author.Tests.{eqb-true, leb-true, ltb-true, eq-eqb, ne-eqb, lt-ltb, l
 use Rattle.edition.specs.Edition.{maxWidth, isWidth}
 use Rattle.edition.specs.Word.{wordBits}
 use Rattle.refusal.specs.Lists.{every}
-use Rattle.refusal.proofs.BoolLaws.{and-true, and-one, and-two, and-three}
+use Rattle.refusal.proofs.BoolLaws.{and-true, and-one, and-two, and-three, or-true}
 use Rattle.arithmetic.specs.declared.Operator.{Operator}
 use Rattle.arithmetic.specs.declared.Operator.the-variants.{Combine, Not, Implies, Compare, Ite, Compute, Divide, Move, Trun, Extend, Conc, Extr}
 use Rattle.arithmetic.specs.declared.Bitwise.{Bitwise}
@@ -180,10 +180,6 @@ module _ (test : Word → Bool) (a b c : Word) where
   ite-tests = and-three (test a) (test b) (test c)
 
 -- words that all pass pass as the operands of any operator
-or-true : (t : Bool) → (t || true) ≡ true
-or-true true = refl
-or-true false = refl
-
 module _ (op : Operator) (a b c : Word) where
   pub widths-hold : (k : ℕ) → isWidth k ≡ true → every (λ w. isWidth (w .width)) (operandsTaken op a b c) ≡ true → widthsHold op k a b c ≡ true
   unfolding widthsHold

@@ -1,6 +1,6 @@
 -- What the overall verdict says of the lines. Assumes nothing.
 use Prim.Native.Nat.{ℕ, suc, _+_, _≤_, _<_}
-use mathlib.Core.Path.{_≡_, refl, ap}
+use mathlib.Core.Path.{_≡_, refl, sym, ap}
 use mathlib.Core.Bool.{Bool, true, false, cond, _||_}
 use mathlib.Core.List.{List, [], _∷_}
 use mathlib.Core.Option.{Option, none, some}
@@ -9,6 +9,7 @@ use lib.Dec.{eqb}
 use lib.ListN.{length, getD, drop}
 use borrow.Author.Tests.{eqb-true, eq-eqb}
 use Rattle.refusal.specs.Lists.{firstFrom, isThere}
+use Rattle.refusal.proofs.BoolLaws.{or-false}
 use Rattle.refusal.proofs.ResultLaws.{never}
 use Rattle.refusal.proofs.ListLaws.{first-none, first-below, first-from, first-here, first-later, first-nowhere}
 use Rattle.constraint.specs.declared.Line.{Line}
@@ -19,10 +20,6 @@ use Rattle.judge.specs.declared.Overall.the-variants.{Satisfied, Violate
 use Rattle.judge.specs.Judge.{verdictViolated, verdictHolds, verdictDisregarded, resultOf, judged, judge, verdictsOf, firstVerdict, overallBy, overallOf}
 
 -- ---- a verdict that was found, or is among those from i on
-or-false : (t : Bool) → t ≡ (t || false)
-or-false true = refl
-or-false false = refl
-
 module _ (v : ℕ) (vs : List ℕ) (i : ℕ) (found : Bool) where
   pub found-more : i < length vs → (found || eqb v (getD vs i 0) || isThere (firstFrom (eqb v) (i + 1 + 1) (drop (i + 1) vs))) ≡ (found || isThere (firstFrom (eqb v) (i + 1) (drop i vs)))
   found-more h = go found (eqb v (getD vs i 0)) refl
@@ -33,7 +30,7 @@ module _ (v : ℕ) (vs : List ℕ) (i : ℕ) (found : Bool) where
       go false false e = rw (first-later (eqb v) (i + 1) vs i 0 h e)
 
   pub found-all : length vs ≤ i → found ≡ (found || isThere (firstFrom (eqb v) (i + 1) (drop i vs)))
-  found-all h = rw (first-nowhere (eqb v) (i + 1) vs i h) (or-false found)
+  found-all h = rw (first-nowhere (eqb v) (i + 1) vs i h) (sym (or-false found))
 
 -- ---- the place of a first verdict
 -- a line of these verdicts, from 1

@@ -1,6 +1,5 @@
 -- What the results of this crate's functions mean, in terms of the definitions.
 use Prim.Native.Nat.{ℕ, _%_, _^_, _≤_}
-use mathlib.Core.Path.{_≡_}
 use mathlib.Core.Bool.{true}
 use mathlib.Core.List.{List}
 use lib.ListN.{length, take, drop}
@@ -19,9 +18,8 @@ use Rattle.operand.specs.declared.Taken.the-variants.{Got, Halt}
 use Rattle.operand.specs.declared.OperandRead.{OperandRead}
 use Rattle.operand.specs.declared.OperandRead.the-variants.{Good, Bad}
 use Rattle.constraint.specs.File.{Variable}
-use Rattle.constraint.specs.TypeRules.{ruleWord}
 use Rattle.constraint.specs.Read.{inConstraint}
-use Rattle.store.specs.Tables.{operandOf, headWidth}
+use Rattle.store.specs.Tables.{operandOf, headWidth, HeadFits}
 use Rattle.text.specs.Scan.{tokenAt}
 
 -- an operand, or the number of the token's refusal
@@ -56,9 +54,9 @@ TakenWithin line (Halt r) = Unit {0}
 
 -- the head of an operand has its width
 abbrev pub ReadFits : List Variable → OperandRead → Type 0
-ReadFits xs (Good head body) = ruleWord xs (operandOf head body) .width ≡ headWidth head
+ReadFits xs (Good head body) = HeadFits xs head body
 ReadFits xs (Bad number) = Unit {0}
 
 abbrev pub TakenFits : List Variable → Taken → Type 0
-TakenFits xs (Got head body i) = ruleWord xs (operandOf head body) .width ≡ headWidth head
+TakenFits xs (Got head body i) = HeadFits xs head body
 TakenFits xs (Halt r) = Unit {0}

@@ -1,4 +1,4 @@
--- Tests that are joined by `&&`. Assumes nothing.
+-- Tests that are joined by `&&` and `||`. Assumes nothing.
 use mathlib.Core.Path.{_≡_, refl, sym, _∙_}
 use mathlib.Core.Bool.{Bool, true, false, not, _&&_, _||_}
 use borrow.Author.Tests.{not-true, not-false}
@@ -25,6 +25,15 @@ and-two false y = refl
 pub and-three : (x y z : Bool) → (x && (y && (z && true))) ≡ ((x && y) && z)
 and-three true y z = and-two y z
 and-three false y z = refl
+
+-- a test or one that passes, and one that does not
+pub or-true : (t : Bool) → (t || true) ≡ true
+or-true true = refl
+or-true false = refl
+
+pub or-false : (t : Bool) → (t || false) ≡ t
+or-false true = refl
+or-false false = refl
 
 -- a test that does not pass
 pub fails : (t : Bool) → (t ≡ true → ⊥) → t ≡ false

@@ -13,7 +13,7 @@ use Rattle.arithmetic.specs.Rules.{i1}
 use Rattle.constraint.specs.declared.Operand.the-variants.{Absent, Var, Const}
 use Rattle.constraint.specs.File.{Variable}
 use Rattle.constraint.specs.TypeRules.{ruleWord, resultWidth, isConstant, isPredicate, predicateRule}
-use Rattle.store.specs.Tables.{variableMark, operandOf, headWidth}
+use Rattle.store.specs.Tables.{variableMark, operandOf, headWidth, HeadFits}
 use Rattle.store.proofs.LineTableLaws.{operand-absent, operand-variable, operand-constant}
 
 differ : _≡_ {A = Bool} true false → ⊥
@@ -48,7 +48,7 @@ module _ (head body : ℕ) (op : Operator) (ws : List Word) where
       go (constant l h q) = rw q
       go (variable l q) = rw q
 
-module _ (xs : List Variable) (head body : ℕ) (fits : ruleWord xs (operandOf head body) .width ≡ headWidth head) where
+module _ (xs : List Variable) (head body : ℕ) (fits : HeadFits xs head body) where
   pub rule-constant : (ltb 0 head && ltb head variableMark) ≡ true → record { width = headWidth head; value = body } ≡ ruleWord xs (operandOf head body)
   unfolding ruleWord
   rule-constant e = go (head-of head body)

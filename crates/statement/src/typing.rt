@@ -23,11 +23,11 @@ ghost use Rattle.edition.specs.Edition.{maxLines};
 ghost use Rattle.arithmetic.specs.Rules.{operandsTaken};
 ghost use Rattle.constraint.specs.File.{Variable};
 ghost use Rattle.constraint.specs.TypeRules.{ruleWord, resultWidth, constantRule, isPredicate, predicateRule, wellTyped};
-ghost use Rattle.store.specs.Tables.{tableHeads, tableBodies, operandOf, headWidth, lineIn, HeadsFit};
+ghost use Rattle.store.specs.Tables.{tableHeads, tableBodies, operandOf, lineIn, HeadFits, HeadsFit};
 
 // An operand as the rules see it: no variable's value matters to them.
 fn rule_word(head: u8, body: u64) -> Word
-    ensures { λ r. ⌜ ((xs : List Variable) → ruleWord xs (operandOf head body) .width ≡ headWidth head → r ≡ ruleWord xs (operandOf head body)) ⌝ }
+    ensures { λ r. ⌜ ((xs : List Variable) → HeadFits xs head body → r ≡ ruleWord xs (operandOf head body)) ⌝ }
 {
     let width = head_width(head);
     if is_constant(head) {
@@ -38,7 +38,7 @@ fn rule_word(head: u8, body: u64) -> Word
 }
 
 fn result_width(head: u8) -> u64
-    ensures { λ r. ⌜ ((xs : List Variable) (body : ℕ) → ruleWord xs (operandOf head body) .width ≡ headWidth head → r ≡ resultWidth xs (operandOf head body)) ⌝ }
+    ensures { λ r. ⌜ ((xs : List Variable) (body : ℕ) → HeadFits xs head body → r ≡ resultWidth xs (operandOf head body)) ⌝ }
 {
     if head == ABSENT { I1 } else { head_width(head) }
 }

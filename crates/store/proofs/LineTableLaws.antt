@@ -15,7 +15,7 @@ use Rattle.constraint.specs.declared.Operand.the-variants.{Absent, Var, Const}
 use Rattle.constraint.specs.File.{Variable, widthAt}
 use Rattle.constraint.specs.Read.{noOperands}
 use Rattle.constraint.specs.TypeRules.{ruleWord}
-use Rattle.store.specs.Tables.{lineHeads, lineBodies, tableHeads, tableBodies, variableMark, operandOf, headWidth, headAt, bodyAt, operandIn, operatorIn, lineIn, linesIn, withOperator, withHead, withBody, withoutOperands, withOperand, LinesKept, HeadsFit, AllHeadsFit}
+use Rattle.store.specs.Tables.{lineHeads, lineBodies, tableHeads, tableBodies, variableMark, operandOf, headWidth, headAt, bodyAt, operandIn, operatorIn, lineIn, linesIn, withOperator, withHead, withBody, withoutOperands, withOperand, LinesKept, HeadFits, HeadsFit, AllHeadsFit}
 use Rattle.store.proofs.TableLaws.{length-tabulate, tabulate-cong, tabulate-suc}
 
 -- ---- all lines
@@ -134,7 +134,7 @@ module _ (heads bodies : List ℕ) (n slot head body : ℕ) (room : n < maxLines
   unfolding operandIn
   operand-beside other d = rw (head-beside heads n other slot head d, body-beside bodies n slot body other d)
 
-  pub fit-operand : (xs : List Variable) → HeadsFit xs heads bodies n → ruleWord xs (operandOf head body) .width ≡ headWidth head → HeadsFit xs (withHead heads n slot head) (withBody bodies n slot body) n
+  pub fit-operand : (xs : List Variable) → HeadsFit xs heads bodies n → HeadFits xs head body → HeadsFit xs (withHead heads n slot head) (withBody bodies n slot body) n
   fit-operand xs f e other l = elim (ℕ-discrete other slot) [
     | yes q ↦ rw (q, operand-put, head-put heads n sized room slot head h) e
     | no d ↦ rw (operand-beside other d, head-beside heads n other slot head d) (f other l)
@@ -224,13 +224,13 @@ unfolding operandOf
 operand-constant k v l h = rw (ne-eqb k 0 (omega arith), lt-ltb k variableMark h)
 
 -- the width in a constant's head, and in a variable's
-pub constant-fits : (xs : List Variable) (head body : ℕ) → head < variableMark → ruleWord xs (operandOf head body) .width ≡ headWidth head
+pub constant-fits : (xs : List Variable) (head body : ℕ) → head < variableMark → HeadFits xs head body
 unfolding ruleWord headWidth operandOf
 constant-fits xs head body h = elim (ℕ-discrete head 0) [
   | yes e ↦ rw e
   | no d ↦ rw (ne-eqb head 0 d, lt-ltb head variableMark h) (omega arith)
 ]
 
-pub variable-fits : (xs : List Variable) (i w : ℕ) → w ≡ widthAt xs i → w < variableMark → ruleWord xs (operandOf (variableMark + headWidth w) i) .width ≡ headWidth (variableMark + headWidth w)
+pub variable-fits : (xs : List Variable) (i w : ℕ) → w ≡ widthAt xs i → w < variableMark → HeadFits xs (variableMark + headWidth w) i
 unfolding ruleWord headWidth
 variable-fits xs i w e h = rw (operand-variable (variableMark + w % variableMark) i (omega arith), ← e) (omega arith)

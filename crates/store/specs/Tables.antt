@@ -35,6 +35,7 @@ lengthUnit = 65536
 abbrev pub widthUnit : ℕ
 widthUnit = 16777216
 
+-- a word, and what it is made of; a width read out of any word is below the mark
 unfoldable pub variableWord : ℕ → ℕ → ℕ → ℕ
 variableWord start len width = start + len * lengthUnit + width * widthUnit
 
@@ -88,6 +89,10 @@ operandOf head body = cond (eqb head 0) Absent (cond (ltb head variableMark) (Co
 -- the width in a head
 unfoldable pub headWidth : ℕ → ℕ
 headWidth head = head % variableMark
+
+-- a head has the width of its operand, a variable or a constant
+abbrev pub HeadFits : List Variable → ℕ → ℕ → Type 0
+HeadFits xs head body = ruleWord xs (operandOf head body) .width ≡ headWidth head
 
 -- the head and the body at a slot of line n: 0 is the output's, 1 to 3 are the operands'
 unfoldable pub headAt : List ℕ → ℕ → ℕ → ℕ

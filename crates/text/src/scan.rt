@@ -12,7 +12,7 @@ ghost use Rattle.text.specs.Bytes.{isSpace, isDigit, isLetter, isNameByt
 ghost use Rattle.text.specs.Lines.{lineOf, tokensFrom, leads as leadsBy};
 ghost use Rattle.text.specs.Spelling.{isName};
 ghost use Rattle.text.specs.declared.Class.the-variants.{Space, NameByte, Printing};
-ghost use Rattle.text.specs.Scan.{isOf, past, stopDigit, stopsAt, foundLine, endsToken, tokensBy, Within};
+ghost use Rattle.text.specs.Scan.{isOf, past, stopDigit, stopDigitsAt, foundLine, endsToken, tokensBy, Within};
 
 fn is_space(b: u8) -> bool
     ensures { λ r. ⌜ r ≡ isSpace b ⌝ }
@@ -130,7 +130,7 @@ fn stop_digit(b: u8) -> u32
 // The compiler makes vector code of it.
 fn stops2(text: &[u8], at: usize) -> u32
     requires { ⌜ at + 2 ≤ length (now text) ⌝ }
-    ensures { λ r. ⌜ (r ≡ stopsAt (now (text .entry)) at 2) × (r < 2 ^ 2) ⌝ }
+    ensures { λ r. ⌜ (r ≡ stopDigitsAt (now (text .entry)) at 2) × (r < 2 ^ 2) ⌝ }
 {
     let next = at + 1;
     stop_digit(text[at]) + 2 * stop_digit(text[next])
@@ -138,27 +138,27 @@ fn stops2(text: &[u8], at: usize) -> u32
 
 fn stops4(text: &[u8], at: usize) -> u32
     requires { ⌜ at + 4 ≤ length (now text) ⌝ }
-    ensures { λ r. ⌜ (r ≡ stopsAt (now (text .entry)) at 4) × (r < 2 ^ 4) ⌝ }
+    ensures { λ r. ⌜ (r ≡ stopDigitsAt (now (text .entry)) at 4) × (r < 2 ^ 4) ⌝ }
 {
     stops2(text, at) + 4 * stops2(text, at + 2)
 }
 
 fn stops8(text: &[u8], at: usize) -> u32
     requires { ⌜ at + 8 ≤ length (now text) ⌝ }
-    ensures { λ r. ⌜ (r ≡ stopsAt (now (text .entry)) at 8) × (r < 2 ^ 8) ⌝ }
+    ensures { λ r. ⌜ (r ≡ stopDigitsAt (now (text .entry)) at 8) × (r < 2 ^ 8) ⌝ }
 {
     stops4(text, at) + 16 * stops4(text, at + 4)
 }
 
 fn stops16(text: &[u8], at: usize) -> u32
     requires { ⌜ at + 16 ≤ length (now text) ⌝ }
-    ensures { λ r. ⌜ r ≡ stopsAt (now (text .entry)) at 16 ⌝ }
+    ensures { λ r. ⌜ r ≡ stopDigitsAt (now (text .entry)) at 16 ⌝ }
 {
     stops8(text, at) + 256 * stops8(text, at + 8)
 }
 
 // As `scan` does for printing bytes, most of a line: 16 at a time.
-fn printing(text: &[u8], at: usize) -> usize
+fn printing_bytes(text: &[u8], at: usize) -> usize
     requires { ⌜ at ≤ length (now text) ⌝ }
     ensures { λ r. ⌜ r ≡ past (isOf Printing) (now (text .entry)) at ⌝ }
 {
@@ -178,11 +178,11 @@ fn allowed(text: &[u8], at: usize) -> usize
     requires { ⌜ at ≤ length (now text) ⌝ }
     ensures { λ r. ⌜ r ≡ past isAllowed (now (text .entry)) at ⌝ }
 {
-    let mut i = printing(text, at);
+    let mut i = printing_bytes(text, at);
     while i < text.len() {
         if text[i] == b'\t' {
             let next = i + 1;
-            i = printing(text, next);
+            i = printing_bytes(text, next);
         } else {
             return i;
         }

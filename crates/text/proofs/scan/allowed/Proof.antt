@@ -18,11 +18,11 @@ Inv-loop text at i₀ i = LeaptTo text at i
 abbrev μ-loop : tie.MeasureT-loop
 μ-loop text at i₀ i = length text - i
 
-printing-requires : tie.Need-printing-requires Inv-loop μ-loop
-printing-requires c κs = search needs
+printing-bytes-requires : tie.Need-printing-bytes-requires Inv-loop μ-loop
+printing-bytes-requires c κs = search needs
 
 loop-holds : tie.Need-loop-holds Inv-loop μ-loop
-loop-holds c = leaps (scan-starts (c .before .before .pre)) (c .printing .ensures)
+loop-holds c = leaps (scan-starts (c .before .before .pre)) (c .printing-bytes .ensures)
 
 shared-slice-read-if1 : tie.Need-shared-slice-read-if1 Inv-loop μ-loop
 shared-slice-read-if1 c = omega arith
@@ -30,19 +30,19 @@ shared-slice-read-if1 c = omega arith
 add-next : tie.Need-add-next Inv-loop μ-loop
 add-next c = omega arith
 
-printing-requires-2 : tie.Need-printing-requires-2 Inv-loop μ-loop
-printing-requires-2 c κs = omega arith
+printing-bytes-requires-2 : tie.Need-printing-bytes-requires-2 Inv-loop μ-loop
+printing-bytes-requires-2 c κs = omega arith
 
 -- a tab, and the printing bytes behind it
-onward : (c : tie.After-printing2 Inv-loop μ-loop) → let s = c .before .before .before in LeaptTo (s .before .before .before .before .args .text .now) (s .before .before .before .before .args .at) (c .printing2 .result)
+onward : (c : tie.After-printing-bytes2 Inv-loop μ-loop) → let s = c .before .before .before in LeaptTo (s .before .before .before .before .args .text .now) (s .before .before .before .before .args .at) (c .printing-bytes2 .result)
 onward c =
     let s = c .before .before .before in
-    leaps (scan-steps (s .before .loop .inv .scanned) (s .loop-test .taken) refl (tab-allowed _ (c .before .if1 .taken))) (c .printing2 .ensures)
+    leaps (scan-steps (s .before .loop .inv .scanned) (s .loop-test .taken) refl (tab-allowed _ (c .before .if1 .taken))) (c .printing-bytes2 .ensures)
 
 loop-less : tie.Need-loop-less Inv-loop μ-loop
 loop-less c =
     let l = c .before .before .before .before in
-    omega (arith, c .printing2 .ensures, past-ge (isOf Printing) (l .before .before .before .args .text .now) (l .loop .i + 1), onward c .scanned .within)
+    omega (arith, c .printing-bytes2 .ensures, past-ge (isOf Printing) (l .before .before .before .args .text .now) (l .loop .i + 1), onward c .scanned .within)
 
 loop-again : tie.Need-loop-again Inv-loop μ-loop
 loop-again c = onward c
@@ -62,11 +62,11 @@ allowed-spec =
     (tie.spec
     Inv-loop
     μ-loop
-    printing-requires
+    printing-bytes-requires
     loop-holds
     shared-slice-read-if1
     add-next
-    printing-requires-2
+    printing-bytes-requires-2
     loop-less
     loop-again
     returns

@@ -1,4 +1,4 @@
--- `printing` meets its contract: a scan over printing bytes that stops at the first set digit.
+-- `printing_bytes` meets its contract: a scan over printing bytes that stops at the first set digit.
 use Prim.Native.Nat.{_+_, _-_, _≤_}
 use mathlib.Core.Path.{_≡_, sym, _∙_}
 use native.Mathlib.Omega.{arith}
@@ -9,8 +9,8 @@ use Rattle.text.specs.Scan.{isOf, past, Scanned}
 use Rattle.text.proofs.RunLaws.{past-le}
 use Rattle.text.proofs.ScanLaws.{scan-starts, scan-leaps}
 use Rattle.text.proofs.StopLaws.{stops-clear, stops-first}
-use Rattle.text.proofs.scan.printing.Statement.{statement}
-use Rattle.text.proofs.scan.printing.Tie as tie
+use Rattle.text.proofs.scan.printing_bytes.Statement.{statement}
+use Rattle.text.proofs.scan.printing_bytes.Tie as tie
 
 abbrev Inv-loop : tie.InvT-loop
 Inv-loop text at i₀ i = Scanned (isOf Printing) text at i
@@ -66,8 +66,8 @@ scan-requires c κs = omega arith
 returns-2 : tie.Need-returns-2 Inv-loop μ-loop
 returns-2 c = c .scan .ensures ∙ c .before .before .loop .inv .ends
 
-pub printing-spec : {M : Type 1} → statement M
-printing-spec =
+pub printing-bytes-spec : {M : Type 1} → statement M
+printing-bytes-spec =
     tie.close
     (tie.spec
     Inv-loop
