@@ -2,20 +2,18 @@
 use Prim.Native.Nat.{ℕ, _≤_, _<_, _^_}
 use Prim.Native.Char.{code}
 use mathlib.Core.Path.{_≡_, refl, _∙_}
-use mathlib.Core.Bool.{true, _&&_}
-use mathlib.Core.List.{List}
+use mathlib.Core.Bool.{true, not}
+use mathlib.Core.List.{List, []}
 use native.Mathlib.Omega.{arith}
-use lib.Dec.{leb, ltb}
+use lib.Dec.{eqb, leb, ltb}
 use lib.ListN.{length}
 use lib.Pow.{pow-mono}
-use borrow.Author.Tests.{leb-true, ltb-true, le-leb, lt-ltb}
+use borrow.Author.Tests.{ltb-true, le-leb, lt-ltb}
 use Rattle.edition.specs.declared.Edition.{Edition}
 use Rattle.edition.specs.Edition.{maxNameBytes, maxWidth}
 use Rattle.refusal.specs.Lists.{every}
 use Rattle.refusal.specs.Result.{accepted}
 use Rattle.refusal.proofs.ResultLaws.{Yields, yields-accepted, yields-ensure, yields-both, yields-given}
-use Rattle.refusal.proofs.BoolLaws.{and-true}
-use Rattle.text.specs.Bytes.{isDigit}
 use Rattle.text.specs.Lines.{Token}
 use Rattle.text.specs.Spelling.{isName, isNumeral, decimal, maxDigits, numberBound, upTo, behind}
 use Rattle.constraint.specs.File.{Variable, variableNamed, variableAt, nameAt, widthAt}
@@ -23,21 +21,17 @@ use Rattle.constraint.specs.Sound.{Each, SoundVariable, Distinct}
 use Rattle.constraint.proofs.VariableLaws.{variable-within}
 use Rattle.answer.specs.Read.{settingOf}
 use Rattle.answer.specs.Claims.{IsSetting}
+use Rattle.text.proofs.NumberLaws.{numeral-parts}
 use Rattle.text.proofs.SeenLaws.{name-plain}
 use Rattle.text.proofs.TokenLaws.{parts-join, up-to-join, behind-join}
 use Rattle.constraint.proofs.EachLaws.{each-at}
-use Rattle.constraint.proofs.NamedLaws.{named-is, named-at}
+use Rattle.constraint.proofs.NamedLaws.{named-sound, named-is, named-at}
 
 -- a token sets the variable of number i to v
 pub record SetsTo (xs : List Variable) (t : Token) (i v : ℕ) : Type 0 where
   pub setting : IsSetting xs t
   pub number-is : setting .variable ≡ i
   pub value-is : decimal (setting .value-digits) ≡ v
-
--- a numeral has a digit
-numeral-length : (n : ℕ) (s : List ℕ) → isNumeral n s ≡ true → 1 ≤ length s
-unfolding isNumeral
-numeral-length n s e = leb-true 1 (length s) (and-true (leb 1 (length s)) (leb (length s) n) (and-true (leb 1 (length s) && leb (length s) n) (every isDigit s) e .0) .0)
 
 -- ---- what the reader accepts is a setting
 module _ (xs : List Variable) (t : Token) where
@@ -57,7 +51,7 @@ module _ (xs : List Variable) (t : Token) where
           value-digits = number;
           declared = variable-within name xs i e;
           numeral = n;
-          spelt = rw (named-is name xs i e) (parts-join (code "=") (t .bytes) (numeral-length maxDigits number n));
+          spelt = rw (named-is name xs i e) (parts-join (code "=") (t .bytes) (numeral-parts maxDigits number n .0));
           value-fits = ltb-true (decimal number) (2 ^ widthAt xs i) f;
         };
         number-is = refl;
@@ -69,30 +63,21 @@ module _ (xs : List Variable) (t : Token) where
 
 -- ---- a setting of sound variables is accepted
 module _ (e : Edition) (xs : List Variable) (sound : Each (SoundVariable e) xs) where
-  -- the variable of number i
-  module _ (i : ℕ) (h : i < length xs) where
-    variable-sound : SoundVariable e (variableAt xs i)
-    variable-sound = each-at (SoundVariable e) xs i _ sound h
-
-    name-spelt : isName (nameAt xs i) ≡ true
-    unfolding nameAt
-    name-spelt = variable-sound .spelt
-
-    name-short : length (nameAt xs i) ≤ maxNameBytes
-    unfolding nameAt
-    name-short = variable-sound .short
-
-    width-most : widthAt xs i ≤ maxWidth
-    unfolding widthAt
-    width-most = variable-sound .width .most
+  -- the width of the variable of number i
+  width-most : (i : ℕ) → i < length xs → widthAt xs i ≤ maxWidth
+  unfolding widthAt
+  width-most i h = each-at (SoundVariable e) xs i (variableAt [] 0) sound h .width .most
 
   -- the parts of a setting
   module _ (t : Token) (h : IsSetting xs t) where
+    no-equals : every (λ b. not (eqb b (code "="))) (nameAt xs (h .variable)) ≡ true
+    no-equals = name-plain _ (named-sound e xs (h .variable) sound (h .declared) .0)
+
     pub setting-name : upTo (code "=") (t .bytes) ≡ nameAt xs (h .variable)
-    setting-name = rw (h .spelt) (up-to-join (code "=") (h .value-digits) (nameAt xs (h .variable)) (name-plain _ (name-spelt (h .variable) (h .declared))))
+    setting-name = rw (h .spelt) (up-to-join (code "=") (h .value-digits) (nameAt xs (h .variable)) no-equals)
 
     pub setting-digits : behind (code "=") (t .bytes) ≡ h .value-digits
-    setting-digits = rw (h .spelt) (behind-join (code "=") (h .value-digits) (nameAt xs (h .variable)) (name-plain _ (name-spelt (h .variable) (h .declared))))
+    setting-digits = rw (h .spelt) (behind-join (code "=") (h .value-digits) (nameAt xs (h .variable)) no-equals)
 
   -- a token that sets a variable is accepted
   module _ (distinct : Distinct xs) (t : Token) where
@@ -100,8 +85,9 @@ module _ (e : Edition) (xs : List Variable) (sound : Each (SoundVariable e) xs) 
     unfolding settingOf
     taken h =
         let i = h .variable in
+        let s = named-sound e xs i sound (h .declared) in
         let bound : decimal (h .value-digits) < numberBound = omega (arith, h .value-fits, pow-mono (width-most i (h .declared))) in
-        rw (setting-name t h, setting-digits t h, name-spelt i (h .declared), h .numeral, lt-ltb (decimal (h .value-digits)) numberBound bound, le-leb (length (nameAt xs i)) maxNameBytes (name-short i (h .declared)), named-at xs distinct i (h .declared), lt-ltb (decimal (h .value-digits)) (2 ^ widthAt xs i) (h .value-fits))
+        rw (setting-name t h, setting-digits t h, s .0, h .numeral, lt-ltb (decimal (h .value-digits)) numberBound bound, le-leb (length (nameAt xs i)) maxNameBytes (s .1), named-at xs distinct i (h .declared), lt-ltb (decimal (h .value-digits)) (2 ^ widthAt xs i) (h .value-fits))
 
     pub setting-accepted : (i v : ℕ) → SetsTo xs t i v → settingOf xs t ≡ accepted (i, v)
     setting-accepted i v h = taken (h .setting) ∙ rw (h .number-is, h .value-is)

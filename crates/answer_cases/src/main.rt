@@ -5,8 +5,8 @@
 // of `r` a constraint file and an answer, then the entries of the table; of `w` a constraint file, the values in 16 digits each, then the bytes of the room.
 use answer::ReadReply;
 use libc::STDOUT_FILENO;
+use printing::WriteReply;
 use reporting::cases::next_both;
-use writer::WriteReply;
 
 const HEADER: usize = 36;
 

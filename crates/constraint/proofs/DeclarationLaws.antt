@@ -1,19 +1,17 @@
 -- Declarations keep a file sound. Assumes nothing.
 use Prim.Native.Char.{code}
 use mathlib.Core.Path.{_≡_}
-use mathlib.Core.Bool.{not}
 use mathlib.Core.List.{List, [], _∷_, _++_}
 use native.Mathlib.Omega.{arith}
-use lib.Dec.{eqb, ltb, leb}
+use lib.Dec.{eqb}
 use lib.ListN.{length, length-append}
 use borrow.Author.Tests.{eqb-true, ltb-true, leb-true, not-true}
-use Rattle.edition.specs.Edition.{maxVariables, maxNameBytes, isWidth}
+use Rattle.edition.specs.Edition.{maxVariables, maxNameBytes}
 use Rattle.refusal.specs.declared.Subject.the-variants.{Constraint}
-use Rattle.refusal.specs.Lists.{isThere}
-use Rattle.refusal.proofs.ResultLaws.{Yields, yields-accepted, yields-bind, yields-ensure, yields-both}
+use Rattle.refusal.proofs.ResultLaws.{Yields, yields-accepted, yields-bind, yields-ensure}
 use Rattle.refusal.proofs.ListLaws.{not-there}
 use Rattle.text.specs.Lines.{TextLine, Token, arguments}
-use Rattle.text.specs.Spelling.{isName, isType, typeWidth, upTo, behind}
+use Rattle.text.specs.Spelling.{typeWidth, upTo, behind}
 use Rattle.text.proofs.NameLaws.{name-length}
 use Rattle.text.proofs.ReadingLaws.{yields-next}
 use Rattle.constraint.specs.File.{Variable, File, withVariable, editionOf, variableNamed}
@@ -22,20 +20,16 @@ use Rattle.constraint.specs.Read.{inHeader, declare, declareAll, readDec
 use Rattle.constraint.specs.Sound.{SoundVariable, SoundLine, SoundFile}
 use Rattle.constraint.proofs.EachLaws.{each-last, each-none, distinct-last}
 use Rattle.constraint.proofs.VariableLaws.{new-name}
+use Rattle.constraint.proofs.TokenLaws.{declare-yields}
 use Rattle.arithmetic.proofs.RuleLaws.{width-is}
 
 -- one variable more, before the first line
 declare-keeps : (f : File) (t : Token) → length (f .lines) ≡ 0 → SoundFile f → Yields (λ x. SoundFile (withVariable f x)) (declare (editionOf f) (f .variables) t)
-unfolding declare
-declare-keeps f t empty h =
+declare-keeps f t empty h = declare-yields t (f .variables) (editionOf f) λ n _ w s r u d.
     let name = upTo (code ":") (t .bytes) in
-    let type = behind (code ":") (t .bytes) in
-    let x : Variable = record { name = name; width = typeWidth type } in
-    yields-both (isName name) (isType type) _ λ n _.
-    yields-ensure (isWidth (typeWidth type)) _ λ w.
-    yields-both (leb (length name) maxNameBytes) (ltb (length (f .variables)) maxVariables) _ λ s r.
-    yields-both (not (isReserved (editionOf f) name)) (not (isThere (variableNamed name (f .variables)))) _ λ u d.
-    yields-accepted (record {
+    let k = typeWidth (behind (code ":") (t .bytes)) in
+    let x : Variable = record { name = name; width = k } in
+    record {
       few-variables = rw length-append (omega (arith, ltb-true (length (f .variables)) maxVariables r));
       few-lines = h .few-lines;
       variables = each-last (SoundVariable (editionOf f)) (f .variables) x (h .variables) (record {
@@ -43,11 +37,11 @@ declare-keeps f t empty h =
         not-empty = name-length name n;
         short = leb-true (length name) maxNameBytes s;
         free = not-true (isReserved (editionOf f) name) u;
-        width = width-is (typeWidth type) w;
+        width = width-is k w;
       });
       distinct = distinct-last (f .variables) x (h .distinct) (new-name name (f .variables) (not-there (variableNamed name (f .variables)) d));
       lines = each-none (SoundLine (f .variables ++ (x ∷ []))) (f .lines) empty;
-    })
+    }
 
 declare-all-keeps : (f : File) (ts : List Token) → length (f .lines) ≡ 0 → SoundFile f → Yields SoundFile (declareAll f ts)
 unfolding declareAll
@@ -58,5 +52,5 @@ pub declarations-keep : (f : File) (l : TextLine) → SoundFile f → Yields Sou
 unfolding readDeclarations inHeader
 declarations-keep f l h =
     yields-ensure (eqb (length (f .lines)) 0) _ λ e.
-    yields-next Constraint l (arguments l) λ p.
+    yields-next Constraint l (arguments l) λ p _.
     declare-all-keeps f (p .0 ∷ p .1) (eqb-true (length (f .lines)) 0 e) h

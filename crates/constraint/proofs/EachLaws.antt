@@ -1,4 +1,4 @@
--- What holds of each element of a list, and of one element more. Assumes nothing.
+-- What holds of each element of a list, and of more elements. Assumes nothing.
 use Prim.Native.Nat.{ℕ, zero, suc, _<_}
 use mathlib.Core.Path.{_≡_}
 use mathlib.Core.Bool.{Bool, false}
@@ -22,10 +22,18 @@ each-at P [] i d p h = let z : ⊥ = omega arith in absurd z
 each-at P (x ∷ xs) zero d p h = p .0
 each-at P (x ∷ xs) (suc i) d p h = each-at P xs i d (p .1) (omega arith)
 
--- one element more
+-- an element behind others
+pub each-here : {A : Type 0} (P : A → Type 0) (xs : List A) (x : A) (ys : List A) → Each P (xs ++ (x ∷ ys)) → P x
+each-here P [] x ys p = p .0
+each-here P (y ∷ xs) x ys p = each-here P xs x ys (p .1)
+
+-- more elements, and one element more
+pub each-append : {A : Type 0} (P : A → Type 0) (xs ys : List A) → Each P xs → Each P ys → Each P (xs ++ ys)
+each-append P [] ys p q = q
+each-append P (x ∷ xs) ys p q = (p .0, each-append P xs ys (p .1) q)
+
 pub each-last : {A : Type 0} (P : A → Type 0) (xs : List A) (x : A) → Each P xs → P x → Each P (xs ++ (x ∷ []))
-each-last P [] x p q = (q, tt)
-each-last P (y ∷ xs) x p q = (p .0, each-last P xs x (p .1) q)
+each-last P xs x p q = each-append P xs (x ∷ []) p (q, tt)
 
 -- of the first n elements, those of a front
 pub each-front : {A : Type 0} (P : A → Type 0) (n : ℕ) (xs ys : List A) → Each P (take n (xs ++ ys)) → Each P (take n xs)

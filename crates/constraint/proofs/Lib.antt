@@ -2,6 +2,8 @@
 pub mod EachLaws
 pub mod VariableLaws
 pub mod NamedLaws
+pub mod TokenLaws
+pub mod SpacedLaws
 pub mod DeclarationLaws
 pub mod OperationLaws
 pub mod SoundLaws

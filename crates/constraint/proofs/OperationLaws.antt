@@ -1,25 +1,23 @@
 -- Lines that are read are sound. Assumes nothing.
 use Prim.Native.Nat.{ℕ, zero, suc, _<_}
-use Prim.Native.Char.{code}
 use mathlib.Core.Path.{_≡_, refl}
 use mathlib.Core.Bool.{true}
 use mathlib.Core.List.{List, [], _∷_, map}
 use native.Mathlib.Nat.{mod-lt}
 use native.Mathlib.Omega.{arith}
-use lib.Dec.{ltb, leb}
+use lib.Dec.{ltb}
 use lib.ListN.{length, take, length-append}
 use lib.Pow.{pow-pos}
 use borrow.Author.Tests.{ltb-true}
 use Rattle.edition.specs.declared.Edition.{Edition}
-use Rattle.edition.specs.Edition.{maxLines, maxNameBytes, isWidth}
+use Rattle.edition.specs.Edition.{maxLines, isWidth}
 use Rattle.refusal.specs.declared.Subject.the-variants.{Constraint}
 use Rattle.refusal.specs.Lists.{every}
-use Rattle.refusal.proofs.ResultLaws.{Yields, yields-accepted, yields-cond, yields-bind, yields-ensure, yields-both, yields-given, yields-also}
+use Rattle.refusal.proofs.ResultLaws.{Yields, yields-accepted, yields-bind, yields-ensure, yields-given, yields-also}
 use Rattle.arithmetic.specs.declared.Operator.{Operator}
 use Rattle.arithmetic.specs.Rules.{arity, widthsHold}
 use Rattle.arithmetic.proofs.RuleLaws.{widths-hold}
 use Rattle.text.specs.Lines.{TextLine, Token, arguments}
-use Rattle.text.specs.Spelling.{isName, isNumeral, decimal, maxDigits, numberBound, isType, typeWidth, upTo, behind}
 use Rattle.text.proofs.ReadingLaws.{yields-next, yields-no-more}
 use Rattle.constraint.specs.declared.Operand.{Operand}
 use Rattle.constraint.specs.declared.Operand.the-variants.{Absent, Var, Const}
@@ -27,18 +25,19 @@ use Rattle.constraint.specs.declared.Operands.{Operands}
 use Rattle.constraint.specs.declared.Line.{Line}
 use Rattle.constraint.specs.declared.Form.{Form}
 use Rattle.constraint.specs.declared.Form.the-variants.{WithOutput, Predicate}
-use Rattle.constraint.specs.File.{Variable, File, withLine, editionOf, variableNamed}
+use Rattle.constraint.specs.File.{Variable, File, withLine, editionOf}
 use Rattle.spelling.specs.Operators.{operatorNamed}
 use Rattle.constraint.specs.TypeRules.{ruleWord, resultWidth, wellTyped}
-use Rattle.constraint.specs.Read.{readVariable, readConstant, readOperand, nextOperand, readOperands, readOperation, nextOutput, readStatement}
+use Rattle.constraint.specs.Read.{readOperand, nextOperand, noOperands, inFront, readOperands, readOperation, nextOutput, readStatement}
 use Rattle.constraint.specs.Sound.{Each, SoundOperand, SoundLine, SoundVariable, SoundFile}
 use Rattle.constraint.proofs.EachLaws.{each-last, each-front}
+use Rattle.constraint.proofs.TokenLaws.{operand-yields}
 use Rattle.constraint.proofs.VariableLaws.{width-test, variable-width, variable-within}
 use Rattle.arithmetic.proofs.RuleLaws.{width-is}
 
 -- ---- operands
 -- a sound operand that is there
-abbrev Present : List Variable → Operand → Type 0
+abbrev pub Present : List Variable → Operand → Type 0
 Present xs Absent = ⊥
 Present xs (Var i) = SoundOperand xs (Var i)
 Present xs (Const w) = SoundOperand xs (Const w)
@@ -48,33 +47,20 @@ sound xs Absent h = tt
 sound xs (Var i) h = h
 sound xs (Const w) h = h
 
-variable-yields : (xs : List Variable) (t : Token) → Yields (Present xs) (readVariable xs t)
-unfolding readVariable
-variable-yields xs t =
-    yields-ensure (leb (length (t .bytes)) maxNameBytes) _ λ _.
-    yields-given (variableNamed (t .bytes) xs) _ λ i e.
-    yields-accepted (variable-within (t .bytes) xs i e)
+present-yields : (xs : List Variable) (t : Token) → Yields (Present xs) (readOperand xs t)
+present-yields xs t = operand-yields t xs (variable-within (t .bytes) xs) (λ _ _ w _. (width-is _ w, mod-lt _ (pow-pos _)))
 
-constant-yields : (xs : List Variable) (t : Token) → Yields (Present xs) (readConstant t)
-unfolding readConstant
-constant-yields xs t =
-    let number = upTo (code ":") (t .bytes) in
-    let type = behind (code ":") (t .bytes) in
-    yields-both (isNumeral maxDigits number) (isType type) _ λ _ _.
-    yields-ensure (isWidth (typeWidth type)) _ λ w.
-    yields-ensure (ltb (decimal number) numberBound) _ λ _.
-    yields-accepted (width-is (typeWidth type) w, mod-lt (decimal number) (pow-pos (typeWidth type)))
-
-operand-yields : (xs : List Variable) (t : Token) → Yields (Present xs) (readOperand xs t)
-unfolding readOperand
-operand-yields xs t = yields-cond (isName (t .bytes)) (variable-yields xs t) (constant-yields xs t)
-
-next-yields : (xs : List Variable) (l : TextLine) (ts : List Token) → Yields (λ p. Present xs (p .0)) (nextOperand xs l ts)
+pub next-yields : (xs : List Variable) (l : TextLine) (ts : List Token) → Yields (λ p. Present xs (p .0)) (nextOperand xs l ts)
 unfolding nextOperand
 next-yields xs l ts =
-    yields-next Constraint l ts λ p.
-    yields-bind (operand-yields xs (p .0)) λ o h.
+    yields-next Constraint l ts λ p _.
+    yields-bind (present-yields xs (p .0)) λ o h.
     yields-accepted h
+
+-- operands in their places; there is no place behind the third
+abbrev pub packed : List Operand → Operands
+packed [] = noOperands
+packed (o ∷ os) = inFront o (packed os)
 
 -- an output, which is there or not
 output-yields : (form : Form) (xs : List Variable) (l : TextLine) (ts : List Token) → Yields (λ p. SoundOperand xs (p .0)) (nextOutput form xs l ts)
@@ -139,13 +125,13 @@ module _ (f : File) (l : TextLine) where
   operation-parts : (output : Operand) (ts : List Token) → SoundOperand (f .variables) output → Yields (SoundParts (f .variables)) (readOperation f l output ts)
   unfolding readOperation
   operation-parts output ts o =
-      yields-next Constraint l ts λ p.
+      yields-next Constraint l ts λ p _.
       yields-given (operatorNamed (editionOf f) (p .0 .bytes)) _ λ op _.
       yields-bind (operands-yield (f .variables) l (arity op) (p .1)) λ q k.
       let line : Line = record { output = output; operator = op; operands = q .0 } in
-      yields-no-more Constraint (q .1)
-      (yields-ensure (wellTyped (f .variables) line) _ λ w.
-      yields-accepted (record { type-rules = w; output = o; first = k .first; second = k .second; third = k .third; there = k .there }))
+      yields-no-more Constraint (q .1) λ _.
+      yields-ensure (wellTyped (f .variables) line) _ λ w.
+      yields-accepted (record { type-rules = w; output = o; first = k .first; second = k .second; third = k .third; there = k .there })
 
   pub statement-parts : (form : Form) → Yields (λ line. (length (f .lines) < maxLines) × SoundParts (f .variables) line) (readStatement form f l)
   unfolding readStatement

@@ -18,13 +18,14 @@ use Rattle.text.specs.Lines.{TextLine, arguments}
 use Rattle.text.specs.Reading.{readLines}
 use Rattle.constraint.specs.declared.Form.{Form}
 use Rattle.constraint.specs.declared.Form.the-variants.{WithOutput, Predicate}
-use Rattle.constraint.specs.File.{Variable, File, withVersion, withExpectation, withLine, editionOf}
-use Rattle.constraint.specs.File.{withVariables}
+use Rattle.constraint.specs.File.{Variable, File, withVersion, withExpectation, withVariables, withLine, editionOf}
 use Rattle.constraint.specs.Sound.{Each, SoundVariable, Distinct}
 use Rattle.constraint.specs.Read.{inHeader, versionOf, readVersion, expectationOf, readExpectation, readDeclarations}
 use Rattle.plain.specs.Says.{Said, saidBy, linesWith, tokensWith, isHeader, SpellsVariable, Pairwise}
 use Rattle.text.proofs.ReadingLaws.{IsAllowed}
-use Rattle.plain.proofs.LineLaws.{tokens, single-again, declarations-is, declarations-again, formLetter, saying}
+use Rattle.text.proofs.TokenLaws.{tokenBytes}
+use Rattle.constraint.proofs.TokenLaws.{single-again}
+use Rattle.plain.proofs.LineLaws.{declarations-is, declarations-again, formLetter, saying}
 use Rattle.plain.proofs.KindLaws.{IsLine, LineKind, skipped, version, expectation, declarations, statement, other, line-kind}
 use Rattle.plain.proofs.OthersLaws.{readAll, line-first, line-then, version-step, expectation-step, statement-then, Others, others-none, others-more, others-are, others-again}
 
@@ -97,17 +98,17 @@ header-end a g e h = go (h .variables) (h .declared) (h .all)
 
 -- ---- a line of each letter in front of a header
 module _ (a g : File) (l : TextLine) (hs : List Said) where
-  header-version : (w : List ℕ) (e : Edition) → a .version ≡ none → tokens (arguments l) ≡ w ∷ [] → versionOf w ≡ some e → Header (withVersion a e) g hs → Header a g (saying (code "v") l ∷ hs)
+  header-version : (w : List ℕ) (e : Edition) → a .version ≡ none → tokenBytes (arguments l) ≡ w ∷ [] → versionOf w ≡ some e → Header (withVersion a e) g hs → Header a g (saying (code "v") l ∷ hs)
   unfolding every isHeader linesWith tokensWith flatMap
-  header-version w e n o p h = record { letters = h .letters; version = once-first versionOf (g .version) (a .version) w e (tokens (arguments l)) (linesWith (code "v") hs) n o p (h .version); expectation = h .expectation; some-declared = h .some-declared; variables = h .variables; declared = h .declared; all = h .all; before = h .before }
+  header-version w e n o p h = record { letters = h .letters; version = once-first versionOf (g .version) (a .version) w e (tokenBytes (arguments l)) (linesWith (code "v") hs) n o p (h .version); expectation = h .expectation; some-declared = h .some-declared; variables = h .variables; declared = h .declared; all = h .all; before = h .before }
 
-  header-expectation : (w : List ℕ) (n : ℕ) → a .expectation ≡ none → tokens (arguments l) ≡ w ∷ [] → expectationOf w ≡ some n → Header (withExpectation a n) g hs → Header a g (saying (code "e") l ∷ hs)
+  header-expectation : (w : List ℕ) (n : ℕ) → a .expectation ≡ none → tokenBytes (arguments l) ≡ w ∷ [] → expectationOf w ≡ some n → Header (withExpectation a n) g hs → Header a g (saying (code "e") l ∷ hs)
   unfolding every isHeader linesWith tokensWith flatMap
-  header-expectation w n m o p h = record { letters = h .letters; version = h .version; expectation = once-first expectationOf (g .expectation) (a .expectation) w n (tokens (arguments l)) (linesWith (code "e") hs) m o p (h .expectation); some-declared = h .some-declared; variables = h .variables; declared = h .declared; all = h .all; before = h .before }
+  header-expectation w n m o p h = record { letters = h .letters; version = h .version; expectation = once-first expectationOf (g .expectation) (a .expectation) w n (tokenBytes (arguments l)) (linesWith (code "e") hs) m o p (h .expectation); some-declared = h .some-declared; variables = h .variables; declared = h .declared; all = h .all; before = h .before }
 
-  header-declarations : (xs : List Variable) → 1 ≤ length (tokens (arguments l)) → Pairwise SpellsVariable (tokens (arguments l)) xs → Header (withVariables a (a .variables ++ xs)) g hs → Header a g (saying (code "d") l ∷ hs)
+  header-declarations : (xs : List Variable) → 1 ≤ length (tokenBytes (arguments l)) → Pairwise SpellsVariable (tokenBytes (arguments l)) xs → Header (withVariables a (a .variables ++ xs)) g hs → Header a g (saying (code "d") l ∷ hs)
   unfolding every isHeader linesWith tokensWith flatMap
-  header-declarations xs n p h = record { letters = h .letters; version = h .version; expectation = h .expectation; some-declared = (n, h .some-declared); variables = xs ++ h .variables; declared = pairs-append SpellsVariable (tokens (arguments l)) (tokensWith (code "d") hs) xs (h .variables) p (h .declared); all = h .all ∙ append-assoc (a .variables) xs (h .variables); before = h .before }
+  header-declarations xs n p h = record { letters = h .letters; version = h .version; expectation = h .expectation; some-declared = (n, h .some-declared); variables = xs ++ h .variables; declared = pairs-append SpellsVariable (tokenBytes (arguments l)) (tokensWith (code "d") hs) xs (h .variables) p (h .declared); all = h .all ∙ append-assoc (a .variables) xs (h .variables); before = h .before }
 
 -- ---- the lines of a file, from a to f
 pub record Whole (a f : File) (ss : List Said) : Type 0 where
@@ -192,7 +193,7 @@ module _ (a g : File) (l : TextLine) (hs : List Said) (z : a .lines ≡ []) wher
   version-goes : Header a g (saying (code "v") l ∷ hs) → Goes (λ b. readVersion b l) a g hs
   unfolding every isHeader linesWith tokensWith flatMap readVersion
   version-goes h =
-      let p = once-then versionOf (g .version) (a .version) (tokens (arguments l)) (linesWith (code "v") hs) (h .version) in
+      let p = once-then versionOf (g .version) (a .version) (tokenBytes (arguments l)) (linesWith (code "v") hs) (h .version) in
       record {
         next = withVersion a (p .1);
         read-is = single-again (inHeader a && not (isThere (a .version))) versionOf _ (withVersion a) l (p .0) (p .1) (allowed-once a (a .version) z (p .2)) (p .3) (p .4);
@@ -203,7 +204,7 @@ module _ (a g : File) (l : TextLine) (hs : List Said) (z : a .lines ≡ []) wher
   expectation-goes : Header a g (saying (code "e") l ∷ hs) → Goes (λ b. readExpectation b l) a g hs
   unfolding every isHeader linesWith tokensWith flatMap readExpectation
   expectation-goes h =
-      let p = once-then expectationOf (g .expectation) (a .expectation) (tokens (arguments l)) (linesWith (code "e") hs) (h .expectation) in
+      let p = once-then expectationOf (g .expectation) (a .expectation) (tokenBytes (arguments l)) (linesWith (code "e") hs) (h .expectation) in
       record {
         next = withExpectation a (p .1);
         read-is = single-again (inHeader a && not (isThere (a .expectation))) expectationOf _ (withExpectation a) l (p .0) (p .1) (allowed-once a (a .expectation) z (p .2)) (p .3) (p .4);
@@ -214,7 +215,7 @@ module _ (a g : File) (l : TextLine) (hs : List Said) (z : a .lines ≡ []) wher
   declarations-goes : Fine (g .variables) → Header a g (saying (code "d") l ∷ hs) → Goes (λ b. readDeclarations b l) a g hs
   unfolding every isHeader linesWith tokensWith flatMap
   declarations-goes f h =
-      let p = parts SpellsVariable (tokens (arguments l)) (tokensWith (code "d") hs) (h .variables) (h .declared) in
+      let p = parts SpellsVariable (tokenBytes (arguments l)) (tokensWith (code "d") hs) (h .variables) (h .declared) in
       let xs = p .front in
       let all : g .variables ≡ a .variables ++ xs ++ p .back = h .all ∙ ap (λ (us : List Variable). a .variables ++ us) (p .are) ∙ sym (append-assoc (a .variables) xs (p .back)) in
       let s : Each (SoundVariable (editionOf a)) (a .variables ++ xs ++ p .back) = subst (Each (SoundVariable (editionOf a))) all (f .sound (editionOf a)) in

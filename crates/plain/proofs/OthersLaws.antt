@@ -18,13 +18,14 @@ use Rattle.refusal.proofs.BoolLaws.{and-true}
 use Rattle.text.specs.Lines.{TextLine, arguments}
 use Rattle.text.specs.Reading.{readAnyLine, readLines}
 use Rattle.text.proofs.ReadingLaws.{IsAllowed, line-allowed}
+use Rattle.text.proofs.TokenLaws.{tokenBytes}
 use Rattle.constraint.specs.declared.Line.{Line}
 use Rattle.constraint.specs.declared.Form.{Form}
 use Rattle.constraint.specs.File.{Variable, File, withVersion, withExpectation, withLine, editionOf}
 use Rattle.constraint.specs.Sound.{Each, SoundVariable, Distinct}
 use Rattle.constraint.specs.Read.{inHeader, versionOf, readVersion, expectationOf, readExpectation, readDeclarations, readStatement, addLine, readLine}
 use Rattle.plain.specs.Says.{Said, saidBy, isHeader, SpellsLine, with-output, predicate, Pairwise}
-use Rattle.plain.proofs.LineLaws.{tokens, SingleIs, single-is, statement-is, statement-again, formLetter, saying}
+use Rattle.plain.proofs.LineLaws.{SingleIs, single-is, statement-is, statement-again, formLetter, saying}
 use Rattle.plain.proofs.KindLaws.{IsLine, LineKind, skipped, version, expectation, declarations, statement, other, line-kind}
 
 abbrev pub readAll : File → List TextLine → Result File
@@ -51,11 +52,11 @@ in-header : (a : File) → inHeader a ≡ true → length (a .lines) ≡ 0
 unfolding inHeader
 in-header a e = eqb-true (length (a .lines)) 0 e
 
-pub version-step : (a b : File) (l : TextLine) → readVersion a l ≡ accepted b → SingleIs (inHeader a && not (isThere (a .version))) versionOf (withVersion a) (tokens (arguments l)) b
+pub version-step : (a b : File) (l : TextLine) → readVersion a l ≡ accepted b → SingleIs (inHeader a && not (isThere (a .version))) versionOf (withVersion a) (tokenBytes (arguments l)) b
 unfolding readVersion
 version-step a b l e = single-is (inHeader a && not (isThere (a .version))) versionOf _ (withVersion a) l .holds b e
 
-pub expectation-step : (a b : File) (l : TextLine) → readExpectation a l ≡ accepted b → SingleIs (inHeader a && not (isThere (a .expectation))) expectationOf (withExpectation a) (tokens (arguments l)) b
+pub expectation-step : (a b : File) (l : TextLine) → readExpectation a l ≡ accepted b → SingleIs (inHeader a && not (isThere (a .expectation))) expectationOf (withExpectation a) (tokenBytes (arguments l)) b
 unfolding readExpectation
 expectation-step a b l e = single-is (inHeader a && not (isThere (a .expectation))) expectationOf _ (withExpectation a) l .holds b e
 

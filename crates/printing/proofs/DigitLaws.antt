@@ -3,15 +3,17 @@ use mathlib.Core.Path.{_≡_, refl, sym, ap, _∙_}
 use mathlib.Core.List.{List, [], _∷_, _++_}
 use mathlib.Core.Bool.{Bool, true, false, cond}
 use Prim.Native.Nat.{ℕ, zero, suc, _+_, _/_, _%_, _^_, _<_, _≤_}
-use native.Mathlib.Nat.{div-lt-iff-lt-mul, pow-suc}
+use native.Mathlib.Nat.{add-zero, div-lt-iff-lt-mul, pow-suc}
+use native.Mathlib.Decide.{decLt}
 use native.Mathlib.Omega.{arith}
-use lib.ListN.{length, length-append}
+use lib.ListN.{length, set, length-append, length-set}
+use lib.Seq.{set-set}
 use lib.Dec.{ltb, lit<}
 use borrow.Author.Tests.{lt-ltb, le-ltb}
 use Rattle.text.specs.Spelling.{maxDigits, numberBound}
 use Rattle.printing.specs.Digits.{digit, digitsIn, digits}
 use Rattle.printing.specs.Room.{Put}
-use Rattle.printing.proofs.PlaceLaws.{put-then}
+use Rattle.printing.proofs.PlaceLaws.{put-one, put-then}
 
 -- the clause, as a law: `digits` unfolded would be written out 20 deep
 clause : (n v : ℕ) → digitsIn (suc n) v ≡ cond (ltb v 10) (digit v ∷ []) (digitsIn n (v / 10) ++ (digit (v % 10) ∷ []))
@@ -72,3 +74,29 @@ module _ (v : ℕ) (fits : v < numberBound) (h : 10 ≤ v) where
   pub put-last-digit : {room : List ℕ} {at end end′ : ℕ} {room′ room″ : List ℕ} → at + length (digits v) ≤ length room
       → Put (digits (v / 10)) room at end room′ → Put (digit (v % 10) ∷ []) room′ end end′ room″ → Put (digits v) room at end′ room″
   put-last-digit k p q = rw digits-step (put-then (rw digits-step at k) p q)
+
+-- two digits at most: where there is one, it is put over the zero in front of it
+module _ (v : ℕ) (short : v < 100) where
+  digits-two : 10 ≤ v → digits v ≡ digit (v / 10) ∷ digit (v % 10) ∷ []
+  digits-two h = digits-step v (omega arith) h ∙ ap (λ l. l ++ (digit (v % 10) ∷ [])) (digits-one (v / 10) (omega arith))
+
+  pub count-two : 10 ≤ v → length (digits v) ≡ 2
+  count-two h = rw (digits-two h)
+
+  module _ (room : List ℕ) (at : ℕ) (r : at + length (digits v) ≤ length room) where
+    abbrev tens-put : List ℕ
+    tens-put = set room at (digit (v / 10))
+
+    pub put-two-digits : (k : ℕ) → length (digits v) ≡ k + 1 → Put (digits v) room at (at + k + 1) (set tens-put (at + k) (digit (v % 10)))
+    put-two-digits k l = elim (decLt v 10) [
+      | yes h ↦
+          let none : k ≡ 0 = omega (arith, count-one v h) in
+          let same : v % 10 ≡ v = omega arith in
+          rw (none, add-zero, same, set-set) (put-one-digit v h (put-one (digit v) room at (omega (arith, count-one v h))))
+      | no h ↦
+          let some : 10 ≤ v = omega arith in
+          let one : k ≡ 1 = omega (arith, count-two some) in
+          let tens = put-one (digit (v / 10)) room at (omega (arith, count-two some)) in
+          let last = put-one (digit (v % 10)) tens-put (at + 1) (omega (arith, count-two some, length-set room at (digit (v / 10)))) in
+          rw (one, digits-two some) (put-then (omega (arith, count-two some)) tens last)
+    ]

@@ -5,8 +5,8 @@ use Prim.Native.Nat.{ℕ, suc, _+_, _≤_, _<_}
 use native.Mathlib.Nat.{zero-add, add-zero}
 use native.Mathlib.Numerals.{add-one}
 use native.Mathlib.Omega.{arith}
-use lib.ListN.{length, getD, drop, set, length-append, length-set}
-use lib.Seq.{sets, length-sets, sets-eq, paste, paste-zero, paste-suc, take-length}
+use lib.ListN.{length, getD, take, drop, set, length-append, length-set}
+use lib.Seq.{sets, length-sets, sets-eq, paste, paste-zero, paste-suc, take-length, take-append-seam}
 use Rattle.printing.specs.Room.{placed, Put}
 
 -- a text put is its bytes stored one by one
@@ -71,3 +71,10 @@ module _ {text room₀ : List ℕ} {at : ℕ} {room : List ℕ} {i : ℕ} (inv :
 pub placed-front : (text room : List ℕ) → placed room 0 text ≡ text ++ drop (length text) room
 unfolding placed
 placed-front text room = rw zero-add
+
+module _ {text room : List ℕ} {end : ℕ} {room′ : List ℕ} (p : Put text room 0 end room′) where
+  pub front-length : end ≡ length text
+  front-length = p .ends ∙ zero-add (length text)
+
+  pub front-is : take end room′ ≡ text
+  front-is = rw (front-length, p .holds, placed-front text room) (take-append-seam text (drop (length text) room))

@@ -1,3 +1,5 @@
 pub mod Digits
 pub mod Room
+pub mod Parts
+pub mod Output
 pub mod RefusalText

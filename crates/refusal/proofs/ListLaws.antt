@@ -1,4 +1,4 @@
--- Elements that pass a test: all of them, the first of them; and things that are not there. Assumes nothing.
+-- Elements that pass a test: all of them, the first of them; and things that are there or not. Assumes nothing.
 use Prim.Native.Nat.{ℕ, suc, _+_, _≤_, _<_}
 use mathlib.Core.Path.{_≡_, refl}
 use mathlib.Core.Bool.{Bool, true, false, not, cond}
@@ -19,6 +19,16 @@ use Rattle.refusal.proofs.BoolLaws.{and-false, and-true}
 pub not-there : {A : Type 0} (o : Option A) → not (isThere o) ≡ true → o ≡ none
 not-there none e = refl
 not-there (some a) e = never (cc e)
+
+-- a thing that is there
+pub is-there : {A : Type 0} (o : Option A) → isThere o ≡ true → (a : A) × (o ≡ some a)
+is-there none e = never (cc e)
+is-there (some a) e = (a, refl)
+
+-- one that is there only where a test passes
+pub cond-some : {A : Type 0} (t : Bool) (o : Option A) (a : A) → cond t o none ≡ some a → (t ≡ true) × (o ≡ some a)
+cond-some true o a e = (refl, e)
+cond-some false o a e = never (cc e)
 
 -- no first: the element in front fails, and there is no first behind it
 no-first : (t : Bool) (n : ℕ) (rest : Option ℕ) → cond t (some n) rest ≡ none → (t ≡ false) × (rest ≡ none)

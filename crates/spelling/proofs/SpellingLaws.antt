@@ -12,7 +12,7 @@ use Rattle.text.specs.Bytes.{same}
 use Rattle.spelling.specs.declared.Spelt.{Spelt}
 use Rattle.spelling.specs.declared.Spelt.the-variants.{Is, Nothing}
 use Rattle.spelling.specs.Operators.{bitwiseSpellings, predicateSpellings, arithmeticSpellings, shiftAndCastSpellings, spellings, operatorSpelt, operatorNamed}
-use Rattle.spelling.specs.Internal.{spelling, orSpelt, ifWord}
+use Rattle.spelling.specs.Internal.{spelling, orSpelt}
 
 infixl 20 _then_
 -- of the spellings xs those in front of `rest` are tested, after others that gave `found`, and r is what they all gave
@@ -38,7 +38,7 @@ untested s found xs = record { agrees = refl }
 module _ {s : List ℕ} {found : Spelt} {xs : List (String × Operator)} where
   -- after one more
   module _ {w : String} {op : Operator} {rest : List (String × Operator)} {r r₁ : Spelt} where
-    pub _then_ : Tested s found xs ((w, op) ∷ rest) r → r₁ ≡ orSpelt r (ifWord (ascii w) s op) → Tested s found xs rest r₁
+    pub _then_ : Tested s found xs ((w, op) ∷ rest) r → r₁ ≡ orSpelt r (cond (same (ascii w) s) (Is op) Nothing) → Tested s found xs rest r₁
     _then_ t e = record { agrees = t .agrees ∙ one-more s w op rest r (same (ascii w) s) refl ∙ ap (λ (x : Spelt). orElse (spelling x) (operatorSpelt s rest)) (sym e) }
 
   -- after the last

@@ -4,6 +4,7 @@ use Prim.Native.String.{String}
 use mathlib.Core.Bool.{Bool, false, cond, _||_}
 use mathlib.Core.List.{List, [], _∷_, _++_}
 use mathlib.Core.Option.{Option, none, some}
+use lib.Dec.{eqb}
 use Rattle.edition.specs.declared.Edition.{Edition}
 use Rattle.arithmetic.specs.declared.Operator.{Operator}
 use Rattle.arithmetic.specs.declared.Operator.the-variants.{Combine, Not, Implies, Compare, Ite, Compute, Divide, Move, Trun, Extend, Conc, Extr}
@@ -13,6 +14,7 @@ use Rattle.arithmetic.specs.declared.Arithmetic.the-variants.{Add, Sub, Mul}
 use Rattle.arithmetic.specs.declared.Division.the-variants.{Udiv, Sdiv, Urem, Srem}
 use Rattle.arithmetic.specs.declared.Shift.the-variants.{Shl, Ashr, Lshr}
 use Rattle.arithmetic.specs.declared.Extension.the-variants.{Sext, Zext}
+use Rattle.arithmetic.specs.Numbering.{operatorNumber}
 use Rattle.refusal.specs.Lists.{isThere}
 use Rattle.refusal.specs.SubjectWords.{ascii}
 use Rattle.text.specs.Bytes.{same}
@@ -52,6 +54,15 @@ operatorSpelt s (x ∷ xs) = let rest = operatorSpelt s xs in cond (same (ascii 
 -- the operator that s spells in an edition
 abbrev pub operatorNamed : Edition → List ℕ → Option Operator
 operatorNamed e s = operatorSpelt s (spellings e)
+
+-- the spelling of an operator in a list: that of the first one with its number; none is no bytes
+unfoldable pub spellingIn : List (String × Operator) → Operator → List ℕ
+spellingIn [] op = []
+spellingIn (x ∷ xs) op = let rest = spellingIn xs op in cond (eqb (operatorNumber (x .1)) (operatorNumber op)) (ascii (x .0)) rest
+
+-- the spelling of an operator in an edition
+unfoldable pub spellingOf : Edition → Operator → List ℕ
+spellingOf e op = spellingIn (spellings e) op
 
 -- "The 14 word operators .. are reserved": a name that spells an operator is
 abbrev pub isReserved : Edition → List ℕ → Bool

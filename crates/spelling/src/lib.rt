@@ -6,16 +6,28 @@ use arithmetic::Division;
 use arithmetic::Extension;
 use arithmetic::Operator;
 use arithmetic::Shift;
+use symbols::symbol_of;
 use text::compare::is_word;
 ghost use mathlib.Core.Path.{_≡_};
 ghost use mathlib.Core.Option.{orElse};
 ghost use Prim.Native.Nat.{_≤_};
 ghost use lib.ListN.{length, drop};
 ghost use Rattle.edition.specs.declared.Edition.{Edition};
-ghost use Rattle.spelling.specs.Operators.{bitwiseSpellings, predicateSpellings, arithmeticSpellings, shiftAndCastSpellings, operatorSpelt, operatorNamed, isReserved};
-ghost use Rattle.spelling.specs.Internal.{spelling, orSpelt, ifWord};
+ghost use Rattle.text.specs.Bytes.{same};
+ghost use Rattle.spelling.specs.Operators.{bitwiseSpellings, predicateSpellings, arithmeticSpellings, shiftAndCastSpellings, operatorSpelt, operatorNamed, spellingOf, isReserved};
+ghost use Rattle.spelling.specs.Internal.{spelling, orSpelt, ifSpelt};
 
 pub mod claims;
+pub mod symbols;
+
+// The longest spelling.
+pub(crate) const LONGEST: usize = 4;
+
+// A spelling: the first `len` of `bytes`, with spaces behind it.
+pub struct Symbol {
+    pub bytes: [u8; LONGEST],
+    pub len: usize,
+}
 
 // The operator that a text spells.
 pub enum Spelt {
@@ -23,14 +35,25 @@ pub enum Spelt {
     Nothing,
 }
 
-// What is found already, else the operator, if the bytes from `at` to the end are its word.
-fn or_word(found: Spelt, text: &[u8], at: usize, word: &[u8], op: Operator) -> Spelt
+// Whether the bytes from `at` to the end are an operator's spelling.
+fn spells(text: &[u8], at: usize, op: Operator) -> bool
     requires { ⌜ at ≤ length (now text) ⌝ }
-    ensures { λ r. ⌜ r ≡ orSpelt found (ifWord (now (word .entry)) (drop at (now (text .entry))) op) ⌝ }
+    ensures { λ r. ⌜ ((e : Edition) → r ≡ same (spellingOf e op) (drop at (now (text .entry)))) ⌝ }
+{
+    let symbol = symbol_of(op);
+    let bytes = symbol.bytes;
+    let len = symbol.len;
+    is_word(text, at, &bytes[..len])
+}
+
+// What is found already, else the operator, if the bytes are its spelling.
+fn or_operator(found: Spelt, text: &[u8], at: usize, op: Operator) -> Spelt
+    requires { ⌜ at ≤ length (now text) ⌝ }
+    ensures { λ r. ⌜ ((e : Edition) → r ≡ orSpelt found (ifSpelt e (drop at (now (text .entry))) op)) ⌝ }
 {
     match found {
         Spelt::Is(before) => Spelt::Is(before),
-        Spelt::Nothing => if is_word(text, at, word) {
+        Spelt::Nothing => if spells(text, at, op) {
             Spelt::Is(op)
         } else {
             Spelt::Nothing
@@ -38,66 +61,60 @@ fn or_word(found: Spelt, text: &[u8], at: usize, word: &[u8], op: Operator) -> S
     }
 }
 
-// What is found already, else the operator of the first word of a list that the bytes are: one function for each list.
+// What is found already, else the first operator of a list whose spelling the bytes are: one function for each list.
 fn bitwise(found: Spelt, text: &[u8], at: usize) -> Spelt
     requires { ⌜ at ≤ length (now text) ⌝ }
     ensures { λ r. ⌜ spelling r ≡ orElse (spelling found) (operatorSpelt (drop at (now (text .entry))) bitwiseSpellings) ⌝ }
 {
-    let found = or_word(found, text, at, b"&", Operator::Combine(Bitwise::And));
-    let found = or_word(found, text, at, b"|", Operator::Combine(Bitwise::Or));
-    let found = or_word(found, text, at, b"^", Operator::Combine(Bitwise::Xor));
-    or_word(found, text, at, b"~", Operator::Not)
+    let found = or_operator(found, text, at, Operator::Combine(Bitwise::And));
+    let found = or_operator(found, text, at, Operator::Combine(Bitwise::Or));
+    let found = or_operator(found, text, at, Operator::Combine(Bitwise::Xor));
+    or_operator(found, text, at, Operator::Not)
 }
 
 fn predicates(found: Spelt, text: &[u8], at: usize) -> Spelt
     requires { ⌜ at ≤ length (now text) ⌝ }
     ensures { λ r. ⌜ spelling r ≡ orElse (spelling found) (operatorSpelt (drop at (now (text .entry))) predicateSpellings) ⌝ }
 {
-    let found = or_word(found, text, at, b"=>", Operator::Implies);
-    let found = or_word(found, text, at, b"=", Operator::Compare(Comparison::Equal));
-    let found = or_word(
-        found,
-        text,
-        at,
-        b"/=",
-        Operator::Compare(Comparison::NotEqual),
-    );
-    let found = or_word(found, text, at, b"ule", Operator::Compare(Comparison::Ule));
-    let found = or_word(found, text, at, b"uge", Operator::Compare(Comparison::Uge));
-    let found = or_word(found, text, at, b"ult", Operator::Compare(Comparison::Ult));
-    let found = or_word(found, text, at, b"ugt", Operator::Compare(Comparison::Ugt));
-    let found = or_word(found, text, at, b"sle", Operator::Compare(Comparison::Sle));
-    let found = or_word(found, text, at, b"sge", Operator::Compare(Comparison::Sge));
-    let found = or_word(found, text, at, b"slt", Operator::Compare(Comparison::Slt));
-    or_word(found, text, at, b"sgt", Operator::Compare(Comparison::Sgt))
+    let found = or_operator(found, text, at, Operator::Implies);
+    let found = or_operator(found, text, at, Operator::Compare(Comparison::Equal));
+    let found = or_operator(found, text, at, Operator::Compare(Comparison::NotEqual));
+    let found = or_operator(found, text, at, Operator::Compare(Comparison::Ule));
+    let found = or_operator(found, text, at, Operator::Compare(Comparison::Uge));
+    let found = or_operator(found, text, at, Operator::Compare(Comparison::Ult));
+    let found = or_operator(found, text, at, Operator::Compare(Comparison::Ugt));
+    let found = or_operator(found, text, at, Operator::Compare(Comparison::Sle));
+    let found = or_operator(found, text, at, Operator::Compare(Comparison::Sge));
+    let found = or_operator(found, text, at, Operator::Compare(Comparison::Slt));
+    or_operator(found, text, at, Operator::Compare(Comparison::Sgt))
 }
 
 fn arithmetic(found: Spelt, text: &[u8], at: usize) -> Spelt
     requires { ⌜ at ≤ length (now text) ⌝ }
     ensures { λ r. ⌜ spelling r ≡ orElse (spelling found) (operatorSpelt (drop at (now (text .entry))) arithmeticSpellings) ⌝ }
 {
-    let found = or_word(found, text, at, b"ite", Operator::Ite);
-    let found = or_word(found, text, at, b"+", Operator::Compute(Arithmetic::Add));
-    let found = or_word(found, text, at, b"-", Operator::Compute(Arithmetic::Sub));
-    let found = or_word(found, text, at, b"*", Operator::Compute(Arithmetic::Mul));
-    let found = or_word(found, text, at, b"/u", Operator::Divide(Division::Udiv));
-    let found = or_word(found, text, at, b"/s", Operator::Divide(Division::Sdiv));
-    let found = or_word(found, text, at, b"%u", Operator::Divide(Division::Urem));
-    or_word(found, text, at, b"%s", Operator::Divide(Division::Srem))
+    let found = or_operator(found, text, at, Operator::Ite);
+    let found = or_operator(found, text, at, Operator::Compute(Arithmetic::Add));
+    let found = or_operator(found, text, at, Operator::Compute(Arithmetic::Sub));
+    let found = or_operator(found, text, at, Operator::Compute(Arithmetic::Mul));
+    let found = or_operator(found, text, at, Operator::Divide(Division::Udiv));
+    let found = or_operator(found, text, at, Operator::Divide(Division::Sdiv));
+    let found = or_operator(found, text, at, Operator::Divide(Division::Urem));
+    or_operator(found, text, at, Operator::Divide(Division::Srem))
 }
 
 fn shifts_and_casts(found: Spelt, text: &[u8], at: usize) -> Spelt
     requires { ⌜ at ≤ length (now text) ⌝ }
     ensures { λ r. ⌜ spelling r ≡ orElse (spelling found) (operatorSpelt (drop at (now (text .entry))) shiftAndCastSpellings) ⌝ }
 {
-    let found = or_word(found, text, at, b"<<", Operator::Move(Shift::Shl));
-    let found = or_word(found, text, at, b">>a", Operator::Move(Shift::Ashr));
-    let found = or_word(found, text, at, b">>l", Operator::Move(Shift::Lshr));
-    let found = or_word(found, text, at, b"trun", Operator::Trun);
-    let found = or_word(found, text, at, b"sext", Operator::Extend(Extension::Sext));
-    let found = or_word(found, text, at, b"zext", Operator::Extend(Extension::Zext));
-    let found = or_word(found, text, at, b"conc", Operator::Conc);
-    or_word(found, text, at, b"extr", Operator::Extr)
+    let found = or_operator(found, text, at, Operator::Move(Shift::Shl));
+    let found = or_operator(found, text, at, Operator::Move(Shift::Ashr));
+    let found = or_operator(found, text, at, Operator::Move(Shift::Lshr));
+    let found = or_operator(found, text, at, Operator::Trun);
+    let found = or_operator(found, text, at, Operator::Extend(Extension::Sext));
+    let found = or_operator(found, text, at, Operator::Extend(Extension::Zext));
+    let found = or_operator(found, text, at, Operator::Conc);
+    or_operator(found, text, at, Operator::Extr)
 }
 
 // The operator that the bytes from `at` to the end spell.

@@ -6,7 +6,7 @@ use native.Mathlib.Decide.{decLt}
 use native.Mathlib.Omega.{arith}
 use lib.ListN.{length, getD, take, drop, List·getD-eq-default}
 use Rattle.edition.specs.Edition.{maxNameBytes, maxWidth}
-use Rattle.constraint.specs.File.{Variable, widthAt}
+use Rattle.constraint.specs.File.{Variable, variableAt, nameAt, widthAt}
 use Rattle.store.specs.Tables.{tabulate, variableMark, lengthUnit, variableWord, nameStart, nameLength, wordWidth, variableOf, variableIn, variablesIn}
 use Rattle.store.proofs.TableLaws.{length-tabulate, getD-tabulate}
 
@@ -14,15 +14,31 @@ abbrev nothing : Variable
 nothing = record { name = []; width = 0 }
 
 module _ (file table : List ℕ) (n i : ℕ) where
+  held : i < n → variableAt (variablesIn file table n) i ≡ variableOf file (getD table i 0)
+  unfolding variablesIn variableIn
+  held h = getD-tabulate (variableIn file table) n i nothing h
+
+  none : n ≤ i → variableAt (variablesIn file table n) i ≡ nothing
+  unfolding variablesIn
+  none h =
+      let l : length (tabulate (variableIn file table) n) ≤ i = omega (arith, length-tabulate (variableIn file table) n) in
+      List·getD-eq-default (tabulate (variableIn file table) n) nothing l
+
   pub width-held : i < n → widthAt (variablesIn file table n) i ≡ wordWidth (getD table i 0)
-  unfolding widthAt variablesIn variableIn variableOf
-  width-held h = ap (λ x. x .width) (getD-tabulate (variableIn file table) n i nothing h)
+  unfolding widthAt variableOf
+  width-held h = ap (λ x. x .width) (held h)
 
   pub width-none : n ≤ i → widthAt (variablesIn file table n) i ≡ 0
-  unfolding widthAt variablesIn
-  width-none h =
-      let l : length (tabulate (variableIn file table) n) ≤ i = omega (arith, length-tabulate (variableIn file table) n) in
-      ap (λ x. x .width) (List·getD-eq-default (tabulate (variableIn file table) n) nothing l)
+  unfolding widthAt
+  width-none h = ap (λ x. x .width) (none h)
+
+  pub name-held : i < n → nameAt (variablesIn file table n) i ≡ take (nameLength (getD table i 0)) (drop (nameStart (getD table i 0)) file)
+  unfolding nameAt variableOf
+  name-held h = ap (λ x. x .name) (held h)
+
+  pub name-none : n ≤ i → nameAt (variablesIn file table n) i ≡ []
+  unfolding nameAt
+  name-none h = ap (λ x. x .name) (none h)
 
 pub width-below : (file table : List ℕ) (n i : ℕ) → widthAt (variablesIn file table n) i < variableMark
 unfolding wordWidth

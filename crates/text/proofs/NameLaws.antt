@@ -1,7 +1,7 @@
 -- Names, and whether two texts are the same bytes. Assumes nothing.
 use Prim.Native.Nat.{ℕ, suc, _+_, _-_, _≤_, _<_}
 use mathlib.Core.Path.{_≡_, refl, ap, sym, _∙_, ap₂}
-use mathlib.Core.List.{List, [], _∷_}
+use mathlib.Core.List.{List, [], _∷_, _++_}
 use mathlib.Core.Bool.{Bool, true, false, _&&_}
 use native.Mathlib.Numerals.{add-one}
 use native.Mathlib.Nat.{add-zero, sub-zero}
@@ -12,9 +12,10 @@ use lib.Seq.{drop-cons, take-all, take-nil}
 use borrow.Author.Tests.{eq-eqb, ne-eqb, eqb-true}
 use Rattle.refusal.specs.Lists.{every}
 use Rattle.refusal.proofs.ResultLaws.{never}
-use Rattle.text.specs.Bytes.{same, isLetter, isNameByte}
+use Rattle.text.specs.Bytes.{same, isDigit, isLetter, isNameByte}
 use Rattle.text.specs.Spelling.{isName}
 use Rattle.refusal.proofs.BoolLaws.{and-false, and-true, fails}
+use Rattle.text.proofs.SeenLaws.{letter-other}
 
 -- a name at a place of f
 module _ (f : List ℕ) (at : ℕ) where
@@ -31,6 +32,14 @@ pub name-length : (s : List ℕ) → isName s ≡ true → 1 ≤ length s
 unfolding isName
 name-length [] e = never (cc e)
 name-length (b ∷ s) e = omega arith
+
+-- what starts with a digit is no name
+pub not-name : (s t : List ℕ) → every isDigit s ≡ true → 1 ≤ length s → isName (s ++ t) ≡ false
+unfolding every isName
+not-name [] t e h = absurd (omega arith)
+not-name (b ∷ s) t e h =
+    let d = and-true (isDigit b) (every isDigit s) e .0 in
+    rw (fails (isLetter b) (λ l. never (cc (sym d ∙ letter-other b l .0))))
 
 -- a text is the same as itself
 pub same-self : (s : List ℕ) → same s s ≡ true

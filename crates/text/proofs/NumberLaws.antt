@@ -6,15 +6,23 @@ use mathlib.Core.Bool.{Bool, true, false, cond, _&&_}
 use native.Mathlib.Omega.{arith}
 use lib.Dec.{leb}
 use lib.ListN.{length, getD, drop, length-drop}
-use borrow.Author.Tests.{lt-ltb, le-ltb}
-use Rattle.text.specs.Bytes.{frontOf}
+use borrow.Author.Tests.{lt-ltb, le-ltb, leb-true}
+use Rattle.refusal.specs.Lists.{every}
+use Rattle.text.specs.Bytes.{frontOf, isDigit}
 use Rattle.text.specs.Spelling.{isNumeral, decimalFrom, decimal}
 use Rattle.text.specs.declared.Class.the-variants.{Digit}
 use Rattle.text.specs.declared.Number.{Number}
 use Rattle.text.specs.declared.Number.the-variants.{Value, TooBig, Misspelt}
 use Rattle.text.specs.Scan.{isOf, past, magnitude, numberRead}
-use Rattle.refusal.proofs.BoolLaws.{and-false, and-one}
+use Rattle.refusal.proofs.BoolLaws.{and-false, and-one, and-true}
 use Rattle.text.proofs.RunLaws.{run-more, run-stop, run-end, run-all, scan-bounds, scan-all, scan-not}
+
+-- a numeral has digits, one at least
+pub numeral-parts : (n : ℕ) (s : List ℕ) → isNumeral n s ≡ true → (1 ≤ length s) × (every isDigit s ≡ true)
+unfolding isNumeral
+numeral-parts n s e =
+    let p = and-true (leb 1 (length s) && leb (length s) n) (every isDigit s) e in
+    (leb-true 1 (length s) (and-true (leb 1 (length s)) (leb (length s) n) (p .0) .0), p .1)
 
 -- the number that a run of digits makes behind the number n, from one place to the next
 module _ (p : ℕ → Bool) (f : List ℕ) (i n : ℕ) where

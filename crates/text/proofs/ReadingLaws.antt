@@ -24,14 +24,14 @@ use Rattle.text.proofs.LineLaws.{lineFrom, lines-turn, lines-end}
 use Rattle.text.proofs.FoundLineLaws.{Ended, line-faulty}
 
 module _ {B : Type 0} {Q : B → Type 0} (file : Subject) where
-  -- a token, then the next step
-  pub yields-next : (l : TextLine) (ts : List Token) {next : Token × List Token → Result B} → ((p : Token × List Token) → Yields Q (next p)) → Yields Q (nextToken file l ts >>= next)
+  -- the first of the tokens, then the next step
+  pub yields-next : (l : TextLine) (ts : List Token) {next : Token × List Token → Result B} → ((p : Token × List Token) → ts ≡ p .0 ∷ p .1 → Yields Q (next p)) → Yields Q (nextToken file l ts >>= next)
   yields-next l [] n = yields-refused
-  yields-next l (t ∷ ts) n = n (t, ts)
+  yields-next l (t ∷ ts) n = n (t, ts) refl
 
   -- no token, then the next step
-  pub yields-no-more : (ts : List Token) {next : Result B} → Yields Q next → Yields Q (noMoreTokens file ts >> next)
-  yields-no-more [] n = n
+  pub yields-no-more : (ts : List Token) {next : Result B} → (ts ≡ [] → Yields Q next) → Yields Q (noMoreTokens file ts >> next)
+  yields-no-more [] n = n refl
   yields-no-more (t ∷ ts) n = yields-refused
 
 -- a line's bytes are allowed

@@ -1,6 +1,7 @@
--- Bytes that are seen: those of names and numbers are, and a name has no `=`. Assumes nothing.
+-- Bytes that are seen: those of names and numbers are; and bytes that names and numbers have not. Assumes nothing.
 use Prim.Native.Nat.{ℕ, _≤_}
-use mathlib.Core.Path.{_≡_, refl}
+use Prim.Native.Char.{code}
+use mathlib.Core.Path.{_≡_, refl, sym, ap, _∙_}
 use mathlib.Core.List.{List, [], _∷_}
 use mathlib.Core.Bool.{Bool, true, false, not}
 use native.Mathlib.Omega.{arith}
@@ -11,6 +12,7 @@ use Rattle.refusal.proofs.BoolLaws.{and-false, and-true, either}
 use Rattle.text.specs.Bytes.{between, isSpace, isLineFeed, isAllowed, isDigit, isLetter, isNameByte}
 use Rattle.text.specs.Spelling.{isName}
 use Rattle.refusal.proofs.ListLaws.{every-weaken}
+use Rattle.refusal.proofs.ResultLaws.{never}
 
 -- a byte that is seen: it is allowed, and it is neither white space nor LF
 unfoldable pub isSeen : ℕ → Bool
@@ -52,8 +54,8 @@ letter-other b e =
     let h : 65 ≤ b = either _ _ (λ k. let q = bounds 97 122 b k in omega arith) (λ k. bounds 65 90 b k .0) e in
     (rw (lt-leb b 57 (omega arith), and-false), ne-eqb b 58 (omega arith))
 
--- a byte of a name is seen, and is not `=`
-name-byte : (b : ℕ) → isNameByte b ≡ true → (33 ≤ b) × (b ≤ 126) × (b ≡ 61 → ⊥)
+-- a byte of a name is seen, and so are all of them
+name-byte : (b : ℕ) → isNameByte b ≡ true → (33 ≤ b) × (b ≤ 126)
 unfolding isNameByte isLetter isDigit
 name-byte b = either _ _ (either _ _ (either _ _ (λ e. let q = bounds 97 122 b e in omega arith) (λ e. let q = bounds 65 90 b e in omega arith)) (λ e. let q = bounds 48 57 b e in omega arith)) (λ e. let q = eqb-true b 95 e in omega arith)
 
@@ -61,10 +63,6 @@ pub byte-seen : (b : ℕ) → isNameByte b ≡ true → isSeen b ≡ true
 unfolding isSeen
 byte-seen b e = let q = name-byte b e in rw (le-leb 33 b (q .0), le-leb b 126 (q .1))
 
-byte-other : (b : ℕ) → isNameByte b ≡ true → not (eqb b 61) ≡ true
-byte-other b e = rw (ne-eqb b 61 (name-byte b e .2))
-
--- and so are all bytes of a name
 name-bytes : (s : List ℕ) → isName s ≡ true → every isNameByte s ≡ true
 unfolding isName every isNameByte
 name-bytes [] e = refl
@@ -73,5 +71,22 @@ name-bytes (b ∷ s) e = let q = and-true (isLetter b) (every isNameByte s) e in
 pub name-seen : (s : List ℕ) → isName s ≡ true → every isSeen s ≡ true
 name-seen s e = every-weaken isNameByte isSeen byte-seen s (name-bytes s e)
 
-pub name-plain : (s : List ℕ) → isName s ≡ true → every (λ b. not (eqb b 61)) s ≡ true
-name-plain s e = every-weaken isNameByte (λ b. not (eqb b 61)) byte-other s (name-bytes s e)
+-- bytes that pass a test have no c, which does not pass it
+without : (p : ℕ → Bool) (c : ℕ) → p c ≡ false → (s : List ℕ) → every p s ≡ true → every (λ b. not (eqb b c)) s ≡ true
+without p c f = every-weaken p (λ b. not (eqb b c)) λ b h. go b h (eqb b c) refl
+  where
+    go : (b : ℕ) → p b ≡ true → (t : Bool) → eqb b c ≡ t → not t ≡ true
+    go b h true e = never (cc (sym h ∙ ap p (eqb-true b c e) ∙ f))
+    go b h false e = refl
+
+pub digits-without : (c : ℕ) → isDigit c ≡ false → (s : List ℕ) → every isDigit s ≡ true → every (λ b. not (eqb b c)) s ≡ true
+digits-without = without isDigit
+
+-- a name has no `=` and no colon
+pub name-plain : (s : List ℕ) → isName s ≡ true → every (λ b. not (eqb b (code "="))) s ≡ true
+unfolding isNameByte isLetter isDigit
+name-plain s e = without isNameByte (code "=") refl s (name-bytes s e)
+
+pub name-no-colon : (s : List ℕ) → isName s ≡ true → every (λ b. not (eqb b (code ":"))) s ≡ true
+unfolding isNameByte isLetter isDigit
+name-no-colon s e = without isNameByte (code ":") refl s (name-bytes s e)

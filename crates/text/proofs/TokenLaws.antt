@@ -1,7 +1,7 @@
--- A line's tokens: the turn of a loop over them, and the parts of a token before and behind a byte. Assumes nothing.
+-- A line's tokens: the turn of a loop over them, their bytes, and the parts of a token before and behind a byte. Assumes nothing.
 use Prim.Native.Nat.{ℕ, suc, _+_, _≤_, _<_}
 use mathlib.Core.Path.{_≡_, refl, ap, _∙_}
-use mathlib.Core.List.{List, [], _∷_, _++_}
+use mathlib.Core.List.{List, [], _∷_, _++_, map, nil≢cons, cons≢nil, head-eq-of-cons-eq, tail-eq-of-cons-eq}
 use mathlib.Core.Bool.{Bool, true, false, not}
 use native.Mathlib.Nat.{add-zero}
 use native.Mathlib.Omega.{arith}
@@ -92,6 +92,18 @@ module _ (line : List ℕ) (i b : ℕ) (hb : b ≡ past (isOf Space) line i) whe
         let s : solid (getD line b 0) ≡ true = rw at-token in
         let m = past-more solid line b h s in
         (omega (arith, past-ge (isOf Space) line i), omega (arith, past-ge solid line (b + 1), stopped), omega (arith, past-le solid line b (omega arith), stopped), rw (he, ← run-part (isOf Solid) line b (omega arith)) (every-of-run (isOf Solid) (drop b line)))
+
+-- the bytes of tokens: the first of them and those behind it, and no token
+abbrev pub tokenBytes : List Token → List (List ℕ)
+tokenBytes = map (λ t. t .bytes)
+
+pub first-token : (ts : List Token) (w : List ℕ) (ws : List (List ℕ)) → tokenBytes ts ≡ w ∷ ws → (t : Token) × (rest : List Token) × (ts ≡ t ∷ rest) × (t .bytes ≡ w) × (tokenBytes rest ≡ ws)
+first-token [] w ws e = absurd (nil≢cons e)
+first-token (t ∷ ts) w ws e = (t, ts, refl, head-eq-of-cons-eq e, tail-eq-of-cons-eq e)
+
+pub no-token : (ts : List Token) → tokenBytes ts ≡ [] → ts ≡ []
+no-token [] e = refl
+no-token (t ∷ ts) e = absurd (cons≢nil e)
 
 -- the parts of a token before and behind its first byte c, which a scan from `at` finds at m
 module _ (f : List ℕ) (at c m : ℕ) (h : at ≤ length f) (hm : m ≡ past (isOf (Until c)) f at) where

@@ -1,5 +1,6 @@
--- A type behind a colon, by the bytes that a reader meets one after another. Assumes nothing.
+-- A type: its parts, and one behind a colon, by the bytes that a reader meets one after another. Assumes nothing.
 use Prim.Native.Nat.{ℕ, suc, _+_, _-_, _*_, _≤_, _<_}
+use Prim.Native.Char.{code}
 use mathlib.Core.Path.{_≡_, refl, ap, sym, _∙_}
 use mathlib.Core.List.{List, [], _∷_}
 use mathlib.Core.Bool.{Bool, true, false, not, cond, _&&_}
@@ -13,7 +14,7 @@ use Rattle.refusal.specs.Lists.{every}
 use Rattle.refusal.proofs.BoolLaws.{and-false, and-true}
 use Rattle.refusal.proofs.ResultLaws.{never}
 use Rattle.text.specs.Bytes.{frontOf, isSpace, isDigit}
-use Rattle.text.specs.Spelling.{isNumeral, decimalFrom, leadingZero, isType}
+use Rattle.text.specs.Spelling.{isNumeral, decimalFrom, leadingZero, maxWidthDigits, isType}
 use Rattle.text.specs.declared.Class.the-variants.{Solid}
 use Rattle.text.specs.declared.TypeRead.{TypeRead}
 use Rattle.text.specs.declared.TypeRead.the-variants.{Width, NoWidth, NoType}
@@ -21,6 +22,15 @@ use Rattle.text.specs.Scan.{isOf, past, endsToken, typeOf, typeBehindCol
 use Rattle.text.proofs.RunLaws.{run-take, run-end}
 use Rattle.text.proofs.SeenLaws.{digit-bounds}
 use Rattle.text.proofs.FirstByteLaws.{digit-solid, goes-on}
+
+-- a type is its letter and the digits of its K
+pub type-parts : (s : List ℕ) → isType s ≡ true → (s ≡ code "i" ∷ drop 1 s) × (isNumeral maxWidthDigits (drop 1 s) ≡ true) × (leadingZero (drop 1 s) ≡ false)
+unfolding isType
+type-parts [] e = never (cc e)
+type-parts (b ∷ s) e =
+    let p = and-true (eqb b (code "i") && isNumeral maxWidthDigits s) (not (leadingZero s)) e in
+    let q = and-true (eqb b (code "i")) (isNumeral maxWidthDigits s) (p .0) in
+    (ap (λ (n : ℕ). n ∷ s) (eqb-true b (code "i") (q .0)), q .1, not-true (leadingZero s) (p .1))
 
 -- the token that a text starts with
 abbrev token : List ℕ → List ℕ

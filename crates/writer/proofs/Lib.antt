@@ -1,10 +1,8 @@
 -- Laws that belong to no one function.
 pub mod ListLaws
-pub mod PartLaws
 pub mod SettingLaws
 pub mod LoopLaws
 pub mod AnswerLaws
-pub mod OutcomeLaws
 pub mod PrintableLaws
 pub mod PrintedLines
 pub mod PrintedTokens

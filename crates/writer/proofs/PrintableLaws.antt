@@ -1,8 +1,8 @@
 -- Settings as they are printed: what their bytes are, and how many. Assumes nothing.
 use Prim.Native.Nat.{ℕ, suc, _+_, _*_, _^_, _≤_, _<_}
-use mathlib.Core.Path.{_≡_, refl}
-use mathlib.Core.List.{List, [], _∷_, _++_, zipWith, flatten}
-use mathlib.Core.Bool.{Bool, true, not}
+use mathlib.Core.Path.{_≡_, refl, ap}
+use mathlib.Core.List.{List, [], _∷_, _++_, zipWith, flatten, flatMap}
+use mathlib.Core.Bool.{Bool, true}
 use native.Mathlib.Omega.{arith}
 use lib.ListN.{length, getD, length-append}
 use lib.Pow.{pow-mono}
@@ -10,16 +10,15 @@ use Rattle.edition.specs.declared.Edition.{Edition}
 use Rattle.edition.specs.Edition.{maxNameBytes}
 use Rattle.refusal.specs.Lists.{every}
 use Rattle.refusal.specs.SubjectWords.{ascii}
-use Rattle.text.specs.Bytes.{frontOf, isSpace}
 use Rattle.text.specs.Spelling.{isName, maxDigits, numberBound}
 use Rattle.constraint.specs.File.{Variable, widthAt}
 use Rattle.constraint.specs.Sound.{Each, SoundVariable}
 use Rattle.printing.specs.Digits.{digits}
 use Rattle.writer.specs.Text.{settingText, settingsText}
-use Rattle.refusal.proofs.ListLaws.{every-append, every-weaken}
 use Rattle.printing.proofs.DigitLaws.{digits-count}
 use Rattle.printing.proofs.DecimalLaws.{digits-all}
-use Rattle.text.proofs.SeenLaws.{isSeen, name-seen, numeral-seen}
+use Rattle.constraint.proofs.SpacedLaws.{Word, word-name, word-more, behindSpaces, spaced-every}
+use Rattle.text.proofs.SeenLaws.{isSeen, numeral-seen}
 
 -- a variable with a short name, and a value that fits it
 pub record Printable (x : Variable) (v : ℕ) : Type 0 where
@@ -59,27 +58,25 @@ pub settings-more : (x : Variable) (xs : List Variable) (v : ℕ) (row : List �
 unfolding settingsText settingText zipWith flatten
 settings-more x xs v row = refl
 
--- a setting's bytes are seen
-pub setting-seen : (x : Variable) (v : ℕ) → isName (x .name) ≡ true → every isSeen (settingBytes x v) ≡ true
-unfolding every isSeen
-setting-seen x v e = every-append isSeen (x .name ++ ascii "=") (digits v) (every-append isSeen (x .name) (ascii "=") (name-seen (x .name) e) refl) (numeral-seen (digits v) (digits-all v))
+-- settings are words, each behind a space
+pub settings-spaced : (xs : List Variable) (row : List ℕ) → settingsText xs row ≡ behindSpaces (zipWith settingBytes xs row)
+unfolding settingsText settingText zipWith flatten flatMap
+settings-spaced [] row = refl
+settings-spaced (x ∷ xs) [] = refl
+settings-spaced (x ∷ xs) (v ∷ row) = ap (λ (s : List ℕ). 32 ∷ settingBytes x v ++ s) (settings-spaced xs row)
 
--- the bytes of settings are seen, or they are spaces: they pass a test that these pass
+pub setting-words : (xs : List Variable) (row : List ℕ) → Printables xs row → Each Word (zipWith settingBytes xs row)
+unfolding zipWith every isSeen
+setting-words [] row g = tt
+setting-words (x ∷ xs) [] g = absurd g
+setting-words (x ∷ xs) (v ∷ row) g = (word-more (x .name ++ ascii "=") (digits v) (word-more (x .name) (ascii "=") (word-name (x .name) (g .0 .spelt)) refl) (numeral-seen (digits v) (digits-all v)), setting-words xs row (g .1))
+
+-- their bytes pass a test that spaces pass, and bytes that are seen
 pub settings-every : (p : ℕ → Bool) → p 32 ≡ true → ((b : ℕ) → isSeen b ≡ true → p b ≡ true) → (xs : List Variable) (row : List ℕ) → Printables xs row → every p (settingsText xs row) ≡ true
-unfolding every
-settings-every p h f [] row g = rw settings-none
-settings-every p h f (x ∷ xs) [] g = absurd g
-settings-every p h f (x ∷ xs) (v ∷ row) g = rw (settings-more x xs v row, h) (every-append p (settingBytes x v) (settingsText xs row) (every-weaken isSeen p f (settingBytes x v) (setting-seen x v (g .0 .spelt))) (settings-every p h f xs row (g .1)))
+settings-every p h f xs row g = rw (settings-spaced xs row) (spaced-every p h f (zipWith settingBytes xs row) (setting-words xs row g))
 
 -- how long settings are, at most
 pub settings-short : (xs : List Variable) (row : List ℕ) → Printables xs row → length (settingsText xs row) ≤ length xs * (2 + maxNameBytes + maxDigits)
 settings-short [] row g = rw settings-none (omega arith)
 settings-short (x ∷ xs) [] g = absurd g
 settings-short (x ∷ xs) (v ∷ row) g = rw (settings-more x xs v row) (omega (arith, g .0 .short, digits-count v, settings-short xs row (g .1), length-append (settingBytes x v) (settingsText xs row), length-append (x .name ++ ascii "=") (digits v), length-append (x .name) (ascii "=")))
-
--- a token in front of settings does not go on in them
-pub settings-stop : (xs : List Variable) (row : List ℕ) → frontOf (λ b. not (isSpace b)) (settingsText xs row) ≡ []
-unfolding frontOf isSpace settingsText zipWith flatten settingText
-settings-stop [] row = refl
-settings-stop (x ∷ xs) [] = refl
-settings-stop (x ∷ xs) (v ∷ row) = refl

@@ -1,13 +1,12 @@
 -- The tokens of printed settings: each sets its variable to its value. Assumes nothing.
 use Prim.Native.Nat.{ℕ, zero, suc, _+_, _<_}
 use Prim.Native.Char.{code}
-use mathlib.Core.Path.{_≡_, refl, sym, _∙_}
-use mathlib.Core.List.{List, [], _∷_, _++_, flatMap}
-use mathlib.Core.Bool.{true, cond, not}
+use mathlib.Core.Path.{_≡_, refl, sym}
+use mathlib.Core.List.{List, [], _∷_, flatMap, zipWith}
+use mathlib.Core.Bool.{true, cond}
 use native.Mathlib.Omega.{arith}
-use lib.ListN.{length, getD, length-append}
-use Rattle.refusal.specs.SubjectWords.{ascii}
-use Rattle.text.specs.Bytes.{same, isSpace}
+use lib.ListN.{length, getD}
+use Rattle.text.specs.Bytes.{same}
 use Rattle.text.specs.Lines.{Token, tokensFrom}
 use Rattle.text.specs.Spelling.{decimal, upTo, behind}
 use Rattle.text.proofs.NameLaws.{same-self, same-false}
@@ -17,37 +16,22 @@ use Rattle.constraint.proofs.EachLaws.{each-map, each-at}
 use Rattle.answer.specs.Claims.{IsSetting}
 use Rattle.printing.specs.Digits.{digits}
 use Rattle.writer.specs.Text.{settingsText}
-use Rattle.refusal.proofs.ListLaws.{every-weaken}
-use Rattle.text.proofs.AppendLaws.{tokens-none, tokens-space, tokens-front}
+use Rattle.constraint.proofs.SpacedLaws.{spacedTokens, spaced-tokens}
 use Rattle.text.proofs.TokenLaws.{up-to-join, behind-join}
 use Rattle.printing.proofs.DecimalLaws.{digits-numeral, digits-make}
-use Rattle.text.proofs.SeenLaws.{isSeen, seen-solid, name-plain}
-use Rattle.writer.proofs.PrintableLaws.{Printable, Printables, settingBytes, settings-none, settings-more, setting-seen, settings-stop}
+use Rattle.text.proofs.SeenLaws.{name-plain}
+use Rattle.writer.proofs.PrintableLaws.{Printable, Printables, settingBytes, settings-spaced, setting-words}
 
 -- where the settings stand that are behind one at `at`
 abbrev after : ℕ → Variable → ℕ → ℕ
 after at x v = at + 1 + length (settingBytes x v)
 
 -- the tokens of settings, which stand at `at`
-unfoldable pub settingTokens : ℕ → List Variable → List ℕ → List Token
-settingTokens at [] row = []
-settingTokens at (x ∷ xs) [] = []
-settingTokens at (x ∷ xs) (v ∷ row) = record { start = at + 1; bytes = settingBytes x v } ∷ settingTokens (after at x v) xs row
+abbrev pub settingTokens : ℕ → List Variable → List ℕ → List Token
+settingTokens at xs row = spacedTokens at (zipWith settingBytes xs row)
 
--- a setting is not empty
-setting-some : (x : Variable) (v : ℕ) → 0 < length (settingBytes x v)
-setting-some x v = omega (arith, length-append (x .name ++ ascii "=") (digits v), length-append (x .name) (ascii "="))
-
--- they are the tokens of the text
 pub settings-tokens : (xs : List Variable) (row : List ℕ) (at : ℕ) → Printables xs row → tokensFrom true at (settingsText xs row) ≡ settingTokens at xs row
-unfolding settingTokens isSpace
-settings-tokens [] row at g = rw (settings-none, tokens-none)
-settings-tokens (x ∷ xs) [] at g = absurd g
-settings-tokens (x ∷ xs) (v ∷ row) at g =
-    rw (settings-more x xs v row)
-    (tokens-space (settingBytes x v ++ settingsText xs row) at 32 refl
-    ∙ tokens-front (settingBytes x v) (settingsText xs row) (at + 1) (setting-some x v) (every-weaken isSeen (λ b. not (isSpace b)) seen-solid (settingBytes x v) (setting-seen x v (g .0 .spelt))) (settings-stop xs row)
-    ∙ rw (settings-tokens xs row (after at x v) (g .1)))
+settings-tokens xs row at g = rw (settings-spaced xs row) (spaced-tokens (zipWith settingBytes xs row) at (setting-words xs row g))
 
 -- a token that sets the first variable, or one of the others
 setting-here : (x : Variable) (xs : List Variable) (v at : ℕ) → Printable x v → IsSetting (x ∷ xs) (record { start = at; bytes = settingBytes x v })
@@ -60,7 +44,7 @@ setting-later x xs t h = record { variable = suc (h .variable); value-digits = h
 
 -- every one sets a variable
 pub tokens-set : (xs : List Variable) (row : List ℕ) (at : ℕ) → Printables xs row → Each (IsSetting xs) (settingTokens at xs row)
-unfolding settingTokens
+unfolding spacedTokens zipWith
 tokens-set [] row at g = tt
 tokens-set (x ∷ xs) [] at g = absurd g
 tokens-set (x ∷ xs) (v ∷ row) at g = (setting-here x xs v (at + 1) (g .0), each-map (setting-later x xs) (settingTokens (after at x v) xs row) (tokens-set xs row (after at x v) (g .1)))
@@ -77,14 +61,14 @@ value-in name x v at g =
 
 -- a name that is no variable's is given no value
 values-none : (name : List ℕ) (xs : List Variable) (row : List ℕ) (at : ℕ) → Printables xs row → Each (λ y. name ≡ y .name → ⊥) xs → flatMap (valueIn name) (settingTokens at xs row) ≡ []
-unfolding settingTokens flatMap
+unfolding spacedTokens zipWith flatMap
 values-none name [] row at g n = refl
 values-none name (x ∷ xs) [] at g n = absurd g
 values-none name (x ∷ xs) (v ∷ row) at g n = rw (value-in name x v (at + 1) (g .0), same-false (x .name) name (λ e. n .0 (sym e))) (values-none name xs row (after at x v) (g .1) (n .1))
 
 -- a variable's name is given its value, once
 pub values-one : (xs : List Variable) (row : List ℕ) (at i : ℕ) → Printables xs row → Distinct xs → i < length xs → flatMap (valueIn (nameAt xs i)) (settingTokens at xs row) ≡ getD row i 0 ∷ []
-unfolding settingTokens flatMap nameAt
+unfolding spacedTokens zipWith flatMap nameAt
 values-one [] row at i g d h = absurd (omega arith)
 values-one (x ∷ xs) [] at i g d h = absurd g
 values-one (x ∷ xs) (v ∷ row) at zero g d h = rw (value-in (x .name) x v (at + 1) (g .0), same-self (x .name), values-none (x .name) xs row (after at x v) (g .1) (d .0))

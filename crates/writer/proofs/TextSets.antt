@@ -2,7 +2,7 @@
 use Prim.Native.Nat.{ℕ, _^_, _≤_, _<_}
 use Prim.Native.Char.{code}
 use mathlib.Core.Path.{_≡_, refl, _∙_}
-use mathlib.Core.List.{List, [], _∷_, map, flatMap, append-nil}
+use mathlib.Core.List.{List, [], _∷_, map, flatMap, zipWith, append-nil}
 use mathlib.Core.Bool.{true}
 use native.Mathlib.Omega.{arith}
 use lib.Dec.{eqb}
@@ -21,6 +21,7 @@ use Rattle.writer.specs.Text.{settingsText, valuesLine, answerText}
 use Rattle.text.proofs.SeenLaws.{seen-allowed}
 use Rattle.writer.proofs.PrintableLaws.{Printables, printables, settings-more, settings-every, settings-short}
 use Rattle.writer.proofs.PrintedLines.{text-lines}
+use Rattle.constraint.proofs.SpacedLaws.{spacedTokens}
 use Rattle.writer.proofs.PrintedTokens.{settingTokens, settings-tokens, tokens-set, values-one}
 
 -- the text is short enough for a file
@@ -61,7 +62,7 @@ text-word (x ∷ xs) (v ∷ row) g = rw (text-lines (x ∷ xs) (v ∷ row) g, le
 
 -- the tokens of its `v` line
 text-settings : (xs : List Variable) (row : List ℕ) → Printables xs row → tokensOf (code "v") (answerText xs row) ≡ settingTokens 15 xs row
-unfolding tokensOf flatMap leads settingTokens
+unfolding tokensOf flatMap leads spacedTokens zipWith
 text-settings [] row g = rw (text-lines [] row g)
 text-settings (x ∷ xs) [] g = absurd g
 text-settings (x ∷ xs) (v ∷ row) g = rw (text-lines (x ∷ xs) (v ∷ row) g, leads-values 118 x xs v row) (append-nil (tokensFrom true 15 (settingsText (x ∷ xs) (v ∷ row))) ∙ settings-tokens (x ∷ xs) (v ∷ row) 15 g)

@@ -4,30 +4,19 @@ use mathlib.Core.Path.{_≡_}
 use mathlib.Core.Bool.{true, false}
 use mathlib.Core.List.{List}
 use mathlib.Core.Option.{none, some}
-use native.Mathlib.Decide.{decLt}
-use native.Mathlib.Omega.{arith}
 use lib.ListN.{length, take}
 use borrow.Author.Tests.{le-leb, lt-leb}
-use Rattle.edition.specs.Edition.{maxFileBytes}
 use Rattle.refusal.specs.declared.Refusal.{Refusal}
 use Rattle.refusal.specs.declared.Subject.the-variants.{Values}
 use Rattle.refusal.specs.Numbers.{tooShort, heldDoesNotFit, notSatisfied}
 use Rattle.refusal.specs.Result.{accepted, refused, refusal}
-use Rattle.refusal.proofs.ResultLaws.{never}
 use Rattle.constraint.specs.File.{File}
 use Rattle.constraint.specs.Read.{readFile}
-use Rattle.reader.proofs.ReaderLaws.{file-long}
 use Rattle.judge.specs.Judge.{freshVerdicts, overallOf}
 use Rattle.judge.specs.InUse.{firstUnfit}
+use Rattle.printing.specs.Output.{roomFor}
 use Rattle.writer.specs.Text.{answerText}
-use Rattle.writer.specs.Write.{isSatisfied, roomFor, writingFor, writing}
-
--- a file that is read is no longer than a file may be
-pub read-short : (bytes : List ℕ) (f : File) → accepted f ≡ readFile bytes → length bytes ≤ maxFileBytes
-read-short bytes f e = elim (decLt maxFileBytes (length bytes)) [
-  | yes h ↦ never (cc (e, file-long bytes h))
-  | no h ↦ omega arith
-]
+use Rattle.writer.specs.Write.{isSatisfied, writingFor, writing}
 
 module _ (constraint values output : List ℕ) where
   pub writing-constraint : (r : Refusal) → refused r ≡ readFile constraint → refused r ≡ writing constraint values output

@@ -2,59 +2,38 @@
 use answer::words::satisfiable;
 use edition::Edition;
 use printing::digit_count;
+use printing::parts::part;
+use printing::parts::put_part;
 use printing::put_byte;
 use printing::put_bytes;
 use printing::put_digits;
 use store::variables::name_length;
 use store::variables::name_start;
-use text::Span;
 ghost use mathlib.Core.Path.{_≡_};
-ghost use Prim.Native.Nat.{ℕ, _+_, _≤_};
-ghost use lib.ListN.{length, take, drop};
+ghost use Prim.Native.Nat.{_+_, _≤_};
+ghost use lib.ListN.{length};
 ghost use Rattle.edition.specs.Edition.{maxVariables, maxFileBytes};
-ghost use Rattle.store.specs.Tables.{variablesIn};
+ghost use Rattle.store.specs.Tables.{variableOf, variablesIn};
 ghost use Rattle.printing.specs.Room.{Put};
 ghost use Rattle.writer.specs.Text.{settingText, settingsText, valuesLine, answerText};
-ghost use Rattle.writer.specs.Parts.{Part, maxSettingsLength};
+ghost use Rattle.writer.specs.Bounds.{maxSettingsLength};
 
-// As many of the `len` bytes at `start` as the file has.
-fn part(file: &[u8], start: usize, len: usize) -> Span
-    ensures { λ r. ⌜ Part (now (file .entry)) (take len (drop start (now (file .entry)))) r ⌝ }
+// ` name=value`, for the variable of a word.
+fn put_setting(file: &[u8], word: u64, v: u64, room: &mut [u8], at: usize) -> usize
+    requires { ⌜ at + length (settingText (variableOf (now file) word) v) ≤ length (now room) ⌝ }
+    ensures { λ r. ⌜ Put (settingText (variableOf (now (file .entry)) word) v) (now (room .entry)) at r (now (room .exit)) ⌝ }
 {
-    if file.len() < start {
-        return Span { start: 0, stop: 0 };
-    }
-    if file.len() - start < len {
-        return Span {
-            start,
-            stop: file.len(),
-        };
-    }
-    Span {
-        start,
-        stop: start + len,
-    }
-}
-
-// ` name=value`, the name being as many of the `len` bytes at `start` as the file has.
-fn put_setting(file: &[u8], start: usize, len: usize, v: u64, room: &mut [u8], at: usize) -> usize
-    requires { ⌜ ((width : ℕ) → at + length (settingText (record { name = take len (drop start (now file)); width = width }) v) ≤ length (now room)) ⌝ }
-    ensures { λ r. ⌜ ((width : ℕ) → Put (settingText (record { name = take len (drop start (now (file .entry))); width = width }) v) (now (room .entry)) at r (now (room .exit))) ⌝ }
-{
-    let name = part(file, start, len);
-    let first = name.start;
-    let stop = name.stop;
-    let named = put_byte(b' ', room, at);
-    let equals = put_bytes(&file[first..stop], room, named);
+    let name = put_byte(b' ', room, at);
+    let equals = put_part(file, name_start(word), name_length(word), room, name);
     let value = put_byte(b'=', room, equals);
     put_digits(v, room, value)
 }
 
-fn setting_length(file: &[u8], start: usize, len: usize, v: u64) -> usize
+fn setting_length(file: &[u8], word: u64, v: u64) -> usize
     requires { ⌜ length (now file) ≤ maxFileBytes ⌝ }
-    ensures { λ r. ⌜ ((width : ℕ) → r ≡ length (settingText (record { name = take len (drop start (now (file .entry))); width = width }) v)) ⌝ }
+    ensures { λ r. ⌜ r ≡ length (settingText (variableOf (now (file .entry)) word) v) ⌝ }
 {
-    let name = part(file, start, len);
+    let name = part(file, name_start(word), name_length(word));
     let first = name.start;
     let stop = name.stop;
     2 + (stop - first) + digit_count(v)
@@ -75,8 +54,7 @@ fn put_settings(
     let mut i = 0;
     let mut end = at;
     while i < n {
-        let word = variables[i];
-        end = put_setting(file, name_start(word), name_length(word), row[i], room, end);
+        end = put_setting(file, variables[i], row[i], room, end);
         i += 1;
     }
     end
@@ -94,8 +72,7 @@ fn settings_length(
     let mut i = 0;
     let mut length = 0;
     while i < n {
-        let word = variables[i];
-        length += setting_length(file, name_start(word), name_length(word), row[i]);
+        length += setting_length(file, variables[i], row[i]);
         i += 1;
     }
     length

@@ -6,6 +6,8 @@ use judge::Overall;
 use judge::in_use::first_unfit;
 use judge::lines::judge_all;
 use judge::verdicts::overall;
+use printing::WriteReply;
+use printing::output::refused;
 use reader::reading::read;
 use refusal::Refusal;
 use refusal::Subject;
@@ -18,32 +20,16 @@ ghost use mathlib.Core.List.{List};
 ghost use Prim.Native.Nat.{ℕ, _≤_, _<_};
 ghost use lib.ListN.{length};
 ghost use Rattle.edition.specs.Edition.{maxVariables, maxLines, maxFileBytes};
-ghost use Rattle.refusal.specs.Result.{refusal as refusalOf};
 ghost use Rattle.constraint.specs.File.{Variable};
 ghost use Rattle.store.specs.Tables.{tableHeads, tableBodies, linesIn, variablesIn, AllHeadsFit};
 ghost use Rattle.judge.specs.Judge.{verdictsOf, overallOf};
 ghost use Rattle.judge.specs.Fitting.{Judgeable};
-ghost use Rattle.writer.specs.declared.WriteReply.the-variants.{Refused as TheRefused};
-ghost use Rattle.writer.specs.Write.{isSatisfied, roomFor, written, writeOutcome};
+ghost use Rattle.printing.specs.Output.{roomFor, written};
+ghost use Rattle.writer.specs.Write.{isSatisfied, writeOutcome};
 ghost use Rattle.writer.specs.Text.{answerText};
 
 mod answers;
 pub mod claims;
-
-pub enum WriteReply {
-    Written(usize),
-    Refused(Refusal),
-}
-
-fn refused(number: u8, subject: Subject, position: usize) -> WriteReply
-    ensures { λ r. ⌜ r ≡ TheRefused (refusalOf subject number position) ⌝ }
-{
-    WriteReply::Refused(Refusal {
-        number,
-        subject,
-        position,
-    })
-}
 
 // Whether the first m lines hold under a row of values that fit.
 fn satisfies<'a>(

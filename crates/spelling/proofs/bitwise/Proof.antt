@@ -1,54 +1,40 @@
 -- `bitwise` meets its contract: its spellings are tested in order.
 use lib.ListN.{drop}
 use borrow.Author.Needs.{needs}
-use Rattle.spelling.specs.Operators.{bitwiseSpellings}
+use Rattle.edition.specs.Edition.{edition10}
+use Rattle.arithmetic.specs.Numbering.{bitwiseNumber, comparisonNumber, arithmeticNumber, divisionNumber, shiftNumber, extensionNumber, operatorNumber}
+use Rattle.spelling.specs.Operators.{bitwiseSpellings, predicateSpellings, arithmeticSpellings, shiftAndCastSpellings, spellings, spellingIn, spellingOf}
 use Rattle.spelling.proofs.SpellingLaws.{untested, _then_, all-tested}
 use Rattle.spelling.proofs.bitwise.Statement.{statement}
 use Rattle.spelling.proofs.bitwise.Tie as tie
 
-slice-aggregate-or-word : tie.Need-slice-aggregate-or-word
-slice-aggregate-or-word c = search needs
+or-operator-requires : tie.Need-or-operator-requires
+or-operator-requires c κs = search needs
 
-or-word-requires : tie.Need-or-word-requires
-or-word-requires c κs = search needs
+or-operator-requires-2 : tie.Need-or-operator-requires-2
+or-operator-requires-2 c κs = search needs
 
-slice-aggregate-or-word-2 : tie.Need-slice-aggregate-or-word-2
-slice-aggregate-or-word-2 c = search needs
+or-operator-requires-3 : tie.Need-or-operator-requires-3
+or-operator-requires-3 c κs = search needs
 
-or-word-requires-2 : tie.Need-or-word-requires-2
-or-word-requires-2 c κs = search needs
-
-slice-aggregate-or-word-3 : tie.Need-slice-aggregate-or-word-3
-slice-aggregate-or-word-3 c = search needs
-
-or-word-requires-3 : tie.Need-or-word-requires-3
-or-word-requires-3 c κs = search needs
-
-slice-aggregate-or-word-4 : tie.Need-slice-aggregate-or-word-4
-slice-aggregate-or-word-4 c = search needs
-
-or-word-requires-4 : tie.Need-or-word-requires-4
-or-word-requires-4 c κs = search needs
+or-operator-requires-4 : tie.Need-or-operator-requires-4
+or-operator-requires-4 c κs = search needs
 
 returns : tie.Need-returns
-unfolding bitwiseSpellings
+unfolding spellingOf spellingIn spellings bitwiseSpellings predicateSpellings arithmeticSpellings shiftAndCastSpellings operatorNumber bitwiseNumber comparisonNumber arithmeticNumber divisionNumber shiftNumber extensionNumber
 returns c =
-    let c₃ = c .before .before in
-    let c₂ = c₃ .before .before in
-    let c₁ = c₂ .before .before in
-    let a = c₁ .before .before .before .args in
-    all-tested (untested (drop (a .at) (a .text .now)) (a .found) bitwiseSpellings then c₁ .or-word .ensures then c₂ .or-word2 .ensures then c₃ .or-word3 .ensures then c .or-word4 .ensures)
+    let c₃ = c .before in
+    let c₂ = c₃ .before in
+    let c₁ = c₂ .before in
+    let a = c₁ .before .before .args in
+    all-tested (untested (drop (a .at) (a .text .now)) (a .found) bitwiseSpellings then c₁ .or-operator .ensures edition10 then c₂ .or-operator2 .ensures edition10 then c₃ .or-operator3 .ensures edition10 then c .or-operator4 .ensures edition10)
 
 pub bitwise-spec : {M : Type 1} → statement M
 bitwise-spec =
     tie.close
     (tie.spec
-    slice-aggregate-or-word
-    or-word-requires
-    slice-aggregate-or-word-2
-    or-word-requires-2
-    slice-aggregate-or-word-3
-    or-word-requires-3
-    slice-aggregate-or-word-4
-    or-word-requires-4
+    or-operator-requires
+    or-operator-requires-2
+    or-operator-requires-3
+    or-operator-requires-4
     returns)

@@ -8,6 +8,7 @@ use borrow.Author.Needs.{needs}
 use Rattle.refusal.specs.Result.{accepted}
 use Rattle.constraint.specs.File.{File}
 use Rattle.constraint.specs.Read.{readFile}
+use Rattle.constraint.proofs.SoundLaws.{read-short}
 use Rattle.store.specs.Tables.{place, Store, storeOf}
 use Rattle.store.specs.Progress.{storedFile, HeadsInUseFit, InTables}
 use Rattle.store.proofs.LookupLaws.{variables-length}
@@ -16,8 +17,9 @@ use Rattle.judge.specs.InUse.{firstUnfit}
 use Rattle.judge.specs.Claims.{RowFits}
 use Rattle.judge.proofs.FitLaws.{row-fits}
 use Rattle.judge.proofs.HeldLaws.{lines-fit}
-use Rattle.writer.specs.Write.{isSatisfied, written}
-use Rattle.writer.proofs.WritingLaws.{read-short, writing-constraint, writing-short, writing-unfit, writing-unsatisfied, writing-text}
+use Rattle.printing.specs.Output.{written}
+use Rattle.writer.specs.Write.{isSatisfied}
+use Rattle.writer.proofs.WritingLaws.{writing-constraint, writing-short, writing-unfit, writing-unsatisfied, writing-text}
 use Rattle.writer.proofs.write.Statement.{statement}
 use Rattle.writer.proofs.write.Tie as tie
 
@@ -122,7 +124,7 @@ write-row-requires : tie.Need-write-row-requires
 write-row-requires c κs =
     let e = c .before .before .before .before .before .before .before in
     let p = reached e in
-    (read-short (bytes p) (file p) (file-read p), in-tables p .variables, length-take-le (count p) (values e) (room e))
+    (read-short (bytes p) (file p) (sym (file-read p)), in-tables p .variables, length-take-le (count p) (values e) (room e))
 
 refused-requires-3 : tie.Need-refused-requires-3
 refused-requires-3 c κs = search needs

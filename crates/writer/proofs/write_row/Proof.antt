@@ -1,6 +1,8 @@
 use native.Mathlib.Omega.{arith}
 use borrow.Author.Needs.{needs}
-use Rattle.writer.proofs.OutcomeLaws.{answer-refused, answer-written}
+use Rattle.store.specs.Tables.{variablesIn}
+use Rattle.printing.proofs.OutputLaws.{text-refused, text-written}
+use Rattle.writer.specs.Text.{answerText}
 use Rattle.writer.proofs.write_row.Statement.{statement}
 use Rattle.writer.proofs.write_row.Tie as tie
 
@@ -11,7 +13,9 @@ refused-requires : tie.Need-refused-requires
 refused-requires c κs = search needs
 
 returns : tie.Need-returns
-returns c = answer-refused _ _ _ (c .before .before .answer-length .ensures) (c .before .if1 .taken) (c .refused .ensures)
+returns c =
+    let a = c .before .before .before .before .before .before .args in
+    text-refused (answerText (variablesIn (a .file .now) (a .variables .now) (a .n)) (a .row .now)) _ (c .before .before .answer-length .ensures) (c .before .if1 .taken) (c .refused .ensures)
 
 put-answer-requires : tie.Need-put-answer-requires
 put-answer-requires c κs =
@@ -22,7 +26,7 @@ same-length : tie.Need-same-length
 same-length c = search needs
 
 returns-2 : tie.Need-returns-2
-returns-2 c = answer-written _ _ _ (c .before .before .before .before .before .answer-length .ensures) (c .before .before .before .before .if1 .left) (c .before .before .put-answer .ensures)
+returns-2 c = text-written _ _ (c .before .before .before .before .before .answer-length .ensures) (c .before .before .before .before .if1 .left) (c .before .before .put-answer .ensures)
 
 pub write-row-spec : {M : Type 1} → statement M
 write-row-spec =

@@ -1,46 +1,40 @@
-use mathlib.Core.Path.{ap}
+use mathlib.Core.Path.{_≡_}
 use native.Mathlib.Omega.{arith}
 use lib.ListN.{length, take, drop}
 use borrow.Author.Needs.{needs}
-use Rattle.writer.proofs.PartLaws.{part-bytes}
+use Rattle.store.specs.Tables.{nameStart, nameLength}
 use Rattle.writer.proofs.SettingLaws.{setting-length, put-setting}
 use Rattle.writer.proofs.answers.put_setting.Statement.{statement}
 use Rattle.writer.proofs.answers.put_setting.Tie as tie
 
-part-requires : tie.Need-part-requires
-part-requires c κs = search needs
-
 put-byte-requires : tie.Need-put-byte-requires
 put-byte-requires c κs =
-    let s = c .before .before .before .before in
-    omega (arith, s .pre 0, setting-length (take (s .args .len) (drop (s .args .start) (s .args .file .now))) 0 (s .args .v))
+    let s = c .before .before .before in
+    omega (arith, s .pre, setting-length (s .args .file .now) (s .args .word) (s .args .v))
 
-sub-put-bytes : tie.Need-sub-put-bytes
-sub-put-bytes c = search needs
+name-start-requires : tie.Need-name-start-requires
+name-start-requires c κs = search needs
 
-part-put-bytes-start : tie.Need-part-put-bytes-start
-part-put-bytes-start c = search needs
+name-length-requires : tie.Need-name-length-requires
+name-length-requires c κs = search needs
 
-part-put-bytes-end : tie.Need-part-put-bytes-end
-part-put-bytes-end c = search needs
-
-put-bytes-requires : tie.Need-put-bytes-requires
-put-bytes-requires c κs =
+put-part-requires : tie.Need-put-part-requires
+put-part-requires c κs =
     let s = c .before .before .before .before .before .before .before .before .before in
-    let name = ap length (part-bytes (c .before .before .before .before .before .before .part .ensures)) in
-    omega (arith, s .pre 0, setting-length (take (s .args .len) (drop (s .args .start) (s .args .file .now))) 0 (s .args .v), name)
+    let name : length (take (c .before .name-length .result) (drop (c .before .before .name-start .result) (s .args .file .now))) ≡ length (take (nameLength (s .args .word)) (drop (nameStart (s .args .word)) (s .args .file .now))) = rw (c .before .name-length .ensures, c .before .before .name-start .ensures) in
+    omega (arith, s .pre, setting-length (s .args .file .now) (s .args .word) (s .args .v), name)
 
 put-byte-requires-2 : tie.Need-put-byte-requires-2
 put-byte-requires-2 c κs =
     let s = c .before .before .before .before .before .before .before .before .before .before .before .before .before in
-    let name = ap length (part-bytes (c .before .before .before .before .before .before .before .before .before .before .part .ensures)) in
-    omega (arith, s .pre 0, setting-length (take (s .args .len) (drop (s .args .start) (s .args .file .now))) 0 (s .args .v), name)
+    let name : length (take (c .before .before .before .before .before .name-length .result) (drop (c .before .before .before .before .before .before .name-start .result) (s .args .file .now))) ≡ length (take (nameLength (s .args .word)) (drop (nameStart (s .args .word)) (s .args .file .now))) = rw (c .before .before .before .before .before .name-length .ensures, c .before .before .before .before .before .before .name-start .ensures) in
+    omega (arith, s .pre, setting-length (s .args .file .now) (s .args .word) (s .args .v), name)
 
 put-digits-requires : tie.Need-put-digits-requires
 put-digits-requires c κs =
     let s = c .before .before .before .before .before .before .before .before .before .before .before .before .before .before .before .before .before in
-    let name = ap length (part-bytes (c .before .before .before .before .before .before .before .before .before .before .before .before .before .before .part .ensures)) in
-    omega (arith, s .pre 0, setting-length (take (s .args .len) (drop (s .args .start) (s .args .file .now))) 0 (s .args .v), name)
+    let name : length (take (c .before .before .before .before .before .before .before .before .before .name-length .result) (drop (c .before .before .before .before .before .before .before .before .before .before .name-start .result) (s .args .file .now))) ≡ length (take (nameLength (s .args .word)) (drop (nameStart (s .args .word)) (s .args .file .now))) = rw (c .before .before .before .before .before .before .before .before .before .name-length .ensures, c .before .before .before .before .before .before .before .before .before .before .name-start .ensures) in
+    omega (arith, s .pre, setting-length (s .args .file .now) (s .args .word) (s .args .v), name)
 
 same-length : tie.Need-same-length
 same-length c = search needs
@@ -48,21 +42,17 @@ same-length c = search needs
 returns : tie.Need-returns
 returns c =
     let s = c .before .before .before .before .before .before .before .before .before .before .before .before .before .before .before .before .before .before .before .before in
-    let space = c .before .before .before .before .before .before .before .before .before .before .before .before .before .before .before .put-byte .ensures in
-    let name = rw (part-bytes (c .before .before .before .before .before .before .before .before .before .before .before .before .before .before .before .before .before .part .ensures)) at (c .before .before .before .before .before .before .before .before .before .before .put-bytes .ensures) in
-    let equals = c .before .before .before .before .before .before .put-byte2 .ensures in
-    λ width. put-setting _ width _ (s .pre width) space name equals (c .before .before .put-digits .ensures)
+    let name = rw (c .before .before .before .before .before .before .before .before .before .before .before .before .name-length .ensures, c .before .before .before .before .before .before .before .before .before .before .before .before .before .name-start .ensures) at (c .before .before .before .before .before .before .before .before .before .before .put-part .ensures) in
+    put-setting _ _ _ (s .pre) (c .before .before .before .before .before .before .before .before .before .before .before .before .before .before .before .before .put-byte .ensures) name (c .before .before .before .before .before .before .put-byte2 .ensures) (c .before .before .put-digits .ensures)
 
 pub put-setting-spec : {M : Type 1} → statement M
 put-setting-spec =
     tie.close
     (tie.spec
-    part-requires
     put-byte-requires
-    sub-put-bytes
-    part-put-bytes-start
-    part-put-bytes-end
-    put-bytes-requires
+    name-start-requires
+    name-length-requires
+    put-part-requires
     put-byte-requires-2
     put-digits-requires
     same-length

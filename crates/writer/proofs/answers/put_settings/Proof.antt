@@ -1,41 +1,39 @@
 use Prim.Native.Nat.{_-_}
+use native.Mathlib.Omega.{arith}
 use borrow.Author.Needs.{needs}
-use Rattle.writer.proofs.LoopLaws.{Putting, putting-starts, putting-room, putting-more, putting-done}
+use Rattle.printing.proofs.RowLaws.{Putting, putting-starts, putting-room, putting-more, putting-done}
+use Rattle.writer.proofs.SettingLaws.{settingAt, settings-are}
 use Rattle.writer.proofs.answers.put_settings.Statement.{statement}
 use Rattle.writer.proofs.answers.put_settings.Tie as tie
 
 abbrev Inv-loop : tie.InvT-loop
-Inv-loop file variables n row room₀ at i₀ end₀ room i end = Putting file variables row n room₀ at room i end
+Inv-loop file variables n row room₀ at i₀ end₀ room i end = Putting (settingAt file variables row) n room₀ at room i end
 
 abbrev μ-loop : tie.MeasureT-loop
 μ-loop file variables n row room₀ at i₀ end₀ room i end = n - i
 
 loop-holds : tie.Need-loop-holds Inv-loop μ-loop
-loop-holds c = putting-starts _ _ _ _ _ _
-
-mul-word : tie.Need-mul-word Inv-loop μ-loop
-mul-word c = search needs
-
-element-copy-out-word : tie.Need-element-copy-out-word Inv-loop μ-loop
-element-copy-out-word c = search needs
-
-name-start-requires : tie.Need-name-start-requires Inv-loop μ-loop
-name-start-requires c κs = search needs
-
-name-length-requires : tie.Need-name-length-requires Inv-loop μ-loop
-name-length-requires c κs = search needs
+loop-holds c = putting-starts _ _ _ _
 
 mul-put-setting : tie.Need-mul-put-setting Inv-loop μ-loop
 mul-put-setting c = search needs
+
+element-copy-out-put-setting : tie.Need-element-copy-out-put-setting Inv-loop μ-loop
+element-copy-out-put-setting c = search needs
+
+mul-put-setting-2 : tie.Need-mul-put-setting-2 Inv-loop μ-loop
+mul-put-setting-2 c = search needs
 
 shared-slice-read-put-setting : tie.Need-shared-slice-read-put-setting Inv-loop μ-loop
 shared-slice-read-put-setting c = search needs
 
 put-setting-requires : tie.Need-put-setting-requires Inv-loop μ-loop
 put-setting-requires c κs =
-    let l = c .before .before .before .before .before .before in
+    let l = c .before .before .before .before in
     let s = l .before .before .before .before in
-    rw (c .before .before .name-length .ensures, c .before .before .before .name-start .ensures) (putting-room (l .loop .inv) (s .pre .1) (s .pre .2) (c .before .before .before .before .before .loop-test .taken))
+    let a = s .args in
+    let all = settings-are (a .file .now) (a .variables .now) (a .row .now) (a .n) (omega (arith, s .pre .1)) in
+    putting-room (l .loop .inv) (rw all at (s .pre .2)) (c .before .before .before .loop-test .taken)
 
 add-i : tie.Need-add-i Inv-loop μ-loop
 add-i c = search needs
@@ -46,16 +44,21 @@ loop-less c = search needs
 loop-again : tie.Need-loop-again Inv-loop μ-loop
 loop-again c =
     let p = c .before .before .put-setting in
-    let w = c .before .before .before .before .before in
-    let l = w .before .before .before .before in
+    let l = c .before .before .before .before .before .before .before in
     let s = l .before .before .before .before in
-    putting-more (l .loop .inv) (s .pre .1) (s .pre .2) (w .before .before .before .loop-test .taken) (p .kept .1 .1 .1 .1 .0) (rw (w .name-length .ensures, w .before .name-start .ensures) at (p .ensures))
+    let a = s .args in
+    let all = settings-are (a .file .now) (a .variables .now) (a .row .now) (a .n) (omega (arith, s .pre .1)) in
+    putting-more (l .loop .inv) (rw all at (s .pre .2)) (c .before .before .before .before .before .before .loop-test .taken) (p .kept .1 .1 .1 .0) (p .ensures)
 
 same-length : tie.Need-same-length Inv-loop μ-loop
 same-length c = c .before .loop .inv .whole
 
 returns : tie.Need-returns Inv-loop μ-loop
-returns c = putting-done (c .before .loop .inv) (c .loop-test .left)
+returns c =
+    let s = c .before .before .before .before .before in
+    let a = s .args in
+    let all = settings-are (a .file .now) (a .variables .now) (a .row .now) (a .n) (omega (arith, s .pre .1)) in
+    rw all (putting-done (c .before .loop .inv) (c .loop-test .left))
 
 pub put-settings-spec : {M : Type 1} → statement M
 put-settings-spec =
@@ -64,11 +67,9 @@ put-settings-spec =
     Inv-loop
     μ-loop
     loop-holds
-    mul-word
-    element-copy-out-word
-    name-start-requires
-    name-length-requires
     mul-put-setting
+    element-copy-out-put-setting
+    mul-put-setting-2
     shared-slice-read-put-setting
     put-setting-requires
     add-i

@@ -2,6 +2,7 @@ use Prim.Native.Nat.{_+_, _-_}
 use native.Mathlib.Omega.{arith}
 use borrow.Author.Needs.{needs}
 use Rattle.writer.proofs.LoopLaws.{Measuring, measuring-starts, measuring-more, measuring-done}
+use Rattle.writer.proofs.SettingLaws.{settings-are}
 use Rattle.writer.proofs.answers.settings_length.Statement.{statement}
 use Rattle.writer.proofs.answers.settings_length.Tie as tie
 
@@ -12,30 +13,22 @@ abbrev μ-loop : tie.MeasureT-loop
 μ-loop file variables n row i₀ length₀ i length = n - i
 
 -- with the next setting
-more : (c : tie.After-setting-length Inv-loop μ-loop) → let l = c .before .before .before .before .before .before in let a = l .before .before .before .args in Measuring (a .file .now) (a .variables .now) (a .row .now) (a .n) (l .loop .i + 1) (l .loop .length + c .setting-length .result)
+more : (c : tie.After-setting-length Inv-loop μ-loop) → let l = c .before .before .before .before in let a = l .before .before .before .args in Measuring (a .file .now) (a .variables .now) (a .row .now) (a .n) (l .loop .i + 1) (l .loop .length + c .setting-length .result)
 more c =
-    let w = c .before .before in
-    let l = w .before .before .before .before in
-    let s = l .before .before .before in
-    measuring-more (l .loop .inv) (s .pre .2) (s .pre .0) (w .before .before .before .loop-test .taken) (rw (w .name-length .ensures, w .before .name-start .ensures) at (c .setting-length .ensures))
+    let l = c .before .before .before .before in
+    measuring-more (l .loop .inv) (l .before .before .before .pre .0) (c .before .before .before .loop-test .taken) (c .setting-length .ensures)
 
 loop-holds : tie.Need-loop-holds Inv-loop μ-loop
 loop-holds c = measuring-starts _ _ _ _
 
-mul-word : tie.Need-mul-word Inv-loop μ-loop
-mul-word c = search needs
-
-element-copy-out-word : tie.Need-element-copy-out-word Inv-loop μ-loop
-element-copy-out-word c = search needs
-
-name-start-requires : tie.Need-name-start-requires Inv-loop μ-loop
-name-start-requires c κs = search needs
-
-name-length-requires : tie.Need-name-length-requires Inv-loop μ-loop
-name-length-requires c κs = search needs
-
 mul-setting-length : tie.Need-mul-setting-length Inv-loop μ-loop
 mul-setting-length c = search needs
+
+element-copy-out-setting-length : tie.Need-element-copy-out-setting-length Inv-loop μ-loop
+element-copy-out-setting-length c = search needs
+
+mul-setting-length-2 : tie.Need-mul-setting-length-2 Inv-loop μ-loop
+mul-setting-length-2 c = search needs
 
 shared-slice-read-setting-length : tie.Need-shared-slice-read-setting-length Inv-loop μ-loop
 shared-slice-read-setting-length c = search needs
@@ -56,7 +49,11 @@ loop-again : tie.Need-loop-again Inv-loop μ-loop
 loop-again c = more c
 
 returns : tie.Need-returns Inv-loop μ-loop
-returns c = (measuring-done (c .before .loop .inv) (c .loop-test .left), omega arith)
+returns c =
+    let s = c .before .before .before .before in
+    let a = s .args in
+    let all = settings-are (a .file .now) (a .variables .now) (a .row .now) (a .n) (omega (arith, s .pre .2)) in
+    (rw all (measuring-done (c .before .loop .inv) (c .loop-test .left)), omega arith)
 
 pub settings-length-spec : {M : Type 1} → statement M
 settings-length-spec =
@@ -65,11 +62,9 @@ settings-length-spec =
     Inv-loop
     μ-loop
     loop-holds
-    mul-word
-    element-copy-out-word
-    name-start-requires
-    name-length-requires
     mul-setting-length
+    element-copy-out-setting-length
+    mul-setting-length-2
     shared-slice-read-setting-length
     setting-length-requires
     add-length

@@ -1,7 +1,7 @@
 use borrow.Author.Needs.{needs}
-use Rattle.writer.proofs.PartLaws.{part-none, part-rest, part-whole}
-use Rattle.writer.proofs.answers.part.Statement.{statement}
-use Rattle.writer.proofs.answers.part.Tie as tie
+use Rattle.printing.proofs.PartLaws.{part-none, part-rest, part-whole}
+use Rattle.printing.proofs.parts.part.Statement.{statement}
+use Rattle.printing.proofs.parts.part.Tie as tie
 
 returns : tie.Need-returns
 returns c = part-none _ (c .before .args .start) (c .before .args .len) (c .if1 .taken)

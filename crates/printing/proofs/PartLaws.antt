@@ -7,7 +7,7 @@ use lib.ListN.{length, take, drop, length-drop, drop-of-length-le}
 use lib.Seq.{take-nil, take-all, take-length, length-slice}
 use Rattle.text.specs.declared.Span.{Span}
 use Rattle.text.proofs.RunLaws.{drop-take}
-use Rattle.writer.specs.Parts.{Part}
+use Rattle.printing.specs.Parts.{Part}
 
 -- the place lies behind the file, the file ends before the bytes do, or all are there
 module _ (file : List ℕ) (start len : ℕ) where
