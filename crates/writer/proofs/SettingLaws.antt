@@ -1,6 +1,6 @@
 -- Settings: one, put piece by piece, and those of the variables in their tables. Assumes nothing.
 use mathlib.Core.Path.{_≡_, refl, ap, _∙_}
-use mathlib.Core.List.{List, [], _++_, zipWith, flatten}
+use mathlib.Core.List.{List, _++_, zipWith, flatten}
 use Prim.Native.Nat.{ℕ, zero, suc, _+_, _≤_}
 use native.Mathlib.Omega.{arith}
 use lib.ListN.{length, getD, take, drop, length-append, length-take, length-drop}

@@ -1,4 +1,3 @@
-use mathlib.Core.List.{[]}
 use native.Mathlib.Omega.{arith}
 use borrow.Author.Needs.{needs}
 use Rattle.writer.proofs.AnswerLaws.{put-no-values, values-length, put-values}

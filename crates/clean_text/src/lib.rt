@@ -1,0 +1,2 @@
+// The clean text of a constraint file.
+pub mod claims;
