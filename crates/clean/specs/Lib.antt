@@ -1,0 +1,4 @@
+pub mod Clean
+pub mod Claims
+pub mod Widths
+pub mod Front
