@@ -1,13 +1,15 @@
-/* The check of an answer against a constraint file, and the change of a single
- * value, for C programs.
+/* The check of an answer against a constraint file, the change of a single
+ * value, the clean spelling of a constraint file and the writing of an answer,
+ * for C programs.
  *
  * Link target/staticlib/libspear.a, which `rt staticlib spear` makes.
  *
  * Nothing is asked of what a call is lent: any bytes, any numbers, any lengths.
  * A pointer may be null only where its length is 0. A range that a call writes
- * (values, verdicts) must not overlap any other range of the same call: what
- * happens then is outside what is proved. The calls keep no state, so threads
- * may make them at the same time. Each needs some 50 KB of stack.
+ * (values, verdicts, output) must not overlap any other range of the same call:
+ * what happens then is outside what is proved. The calls keep no state, so
+ * threads may make them at the same time. Each needs some 50 KB of stack,
+ * spear_clean some 110 KB.
  */
 #ifndef SPEAR_H
 #define SPEAR_H
@@ -54,11 +56,32 @@ uint64_t spear_change(const uint8_t *constraints, size_t constraints_len,
                       uint8_t *verdicts, size_t verdicts_len,
                       size_t variable, uint64_t value);
 
-/* The parts of a word. Its kind is SPEAR_SATISFIED, SPEAR_VIOLATED,
- * SPEAR_DISREGARDED or SPEAR_KIND_REFUSED.
+/* Writes the clean spelling of a constraint file: `v 1.0`, the `e` line if there
+ * is one, one `d` line, the `c` and `p` lines; one space between tokens,
+ * constants reduced and without leading zeros, one LF between lines and none at
+ * the end. Files that say the same have the same clean spelling. A room as long
+ * as the file is always enough; it must not overlap the file. Nothing behind
+ * the length changes, and a refusal changes nothing. Gives a word.
+ */
+uint64_t spear_clean(const uint8_t *constraints, size_t constraints_len,
+                     uint8_t *output, size_t output_len);
+
+/* Writes the answer file that sets these values, one for each variable in the
+ * order of the declarations, where they satisfy the constraint file. The room
+ * must not overlap the file or the values. Nothing behind the length changes,
+ * and a refusal changes nothing. Gives a word.
+ */
+uint64_t spear_write(const uint8_t *constraints, size_t constraints_len,
+                     const uint64_t *values, size_t values_len,
+                     uint8_t *output, size_t output_len);
+
+/* The parts of a word. Its kind is SPEAR_SATISFIED, SPEAR_VIOLATED or
+ * SPEAR_DISREGARDED of a check or a change, SPEAR_KIND_DONE of a text that is
+ * written, or SPEAR_KIND_REFUSED.
  */
 #define SPEAR_KIND(word) ((uint32_t)((word) & 0xff))
 #define SPEAR_KIND_REFUSED 3u
+#define SPEAR_KIND_DONE 4u
 
 /* Of a verdict: the first line that decides it, from 1, and 0 where all hold.
  * Of a change also: how many lines name the variable, how many verdicts became
@@ -69,6 +92,9 @@ uint64_t spear_change(const uint8_t *constraints, size_t constraints_len,
 #define SPEAR_ALTERED(word) ((uint32_t)((word) >> 40 & 0xffff))
 #define SPEAR_BITS(word) ((uint32_t)((word) >> 56))
 
+/* Of a text that is written: its length in bytes. */
+#define SPEAR_LENGTH(word) ((uint64_t)(word) >> 8)
+
 /* Of a refusal: its number, what it speaks of, and the position there. */
 #define SPEAR_NUMBER(word) ((uint32_t)((word) >> 8 & 0xff))
 #define SPEAR_SUBJECT(word) ((uint32_t)((word) >> 16 & 0xff))
@@ -78,6 +104,7 @@ uint64_t spear_change(const uint8_t *constraints, size_t constraints_len,
 #define SPEAR_OF_ANSWER 1u
 #define SPEAR_OF_VALUES 2u
 #define SPEAR_OF_VERDICTS 3u
+#define SPEAR_OF_OUTPUT 4u
 #define SPEAR_OF_CALL 5u
 
 #ifdef __cplusplus

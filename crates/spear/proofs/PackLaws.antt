@@ -13,9 +13,11 @@ use Rattle.judge.specs.Judge.{overallNumber}
 use Rattle.moves.specs.declared.Effect.{Effect}
 use Rattle.tables.specs.declared.CheckReply.{CheckReply}
 use Rattle.tables.specs.declared.CheckReply.the-variants.{Checked, Refused as CheckRefused}
+use Rattle.printing.specs.declared.WriteReply.{WriteReply}
+use Rattle.printing.specs.declared.WriteReply.the-variants.{Written, Refused as WriteRefused}
 use Rattle.moves.specs.declared.ChangeReply.{ChangeReply}
 use Rattle.moves.specs.declared.ChangeReply.the-variants.{Changed, Refused}
-use Rattle.spear.specs.Pack.{verdictWord, refusalWord, decidingLine, subjectNumber, packRefusal, packCheck, packChange, kindRefused, bitsFrom, kindIn, overallIn, subjectIn, refusalIn, checkIn, changeIn}
+use Rattle.spear.specs.Pack.{verdictWord, refusalWord, doneWord, decidingLine, subjectNumber, packRefusal, packCheck, packChange, packWrite, kindRefused, kindDone, bitsFrom, kindIn, overallIn, subjectIn, refusalIn, checkIn, changeIn, writeIn}
 
 -- ---- the parts of a word are the numbers it was made of
 pub record VerdictParts (word kind line named altered bits : ℕ) : Type 0 where
@@ -38,6 +40,14 @@ pub record RefusalParts (word number subject position : ℕ) : Type 0 where
 pub refusal-parts : (number subject position : ℕ) → number < 2 ^ 8 → subject < 2 ^ 8 → position < 2 ^ 40 → RefusalParts (refusalWord number subject position) number subject position
 unfolding refusalWord
 refusal-parts number subject position n s p = record { kind-in = omega arith; number-in = omega arith; subject-in = omega arith; position-in = omega arith }
+
+record DoneParts (word n : ℕ) : Type 0 where
+  pub kind-in : kindIn word ≡ kindDone
+  pub length-in : bitsFrom word 8 56 ≡ n
+
+done-parts : (n : ℕ) → n < 2 ^ 56 → DoneParts (doneWord n) n
+unfolding doneWord
+done-parts n h = record { kind-in = omega arith; length-in = omega arith }
 
 -- ---- an overall verdict by its number and its line, a subject by its number
 pub overall-small : (o : Overall) → overallNumber o < 3
@@ -98,6 +108,10 @@ abbrev pub ChangeFits : ChangeReply → Type 0
 ChangeFits (Changed e) = EffectFits e
 ChangeFits (Refused r) = RefusalFits r
 
+abbrev pub WriteFits : WriteReply → Type 0
+WriteFits (Written n) = n < 2 ^ 56
+WriteFits (WriteRefused r) = RefusalFits r
+
 -- it is what its word unpacks to
 pub check-back : (reply : CheckReply) → CheckFits reply → checkIn (packCheck reply) ≡ reply
 check-back (Checked o) h =
@@ -113,3 +127,7 @@ change-back (Changed e) h =
     let p = verdict-parts (overallNumber o) (decidingLine o) (e .named) (e .altered) (e .bits) (overall-small o) (h .line) (h .named) (h .altered) (h .bits) in
     no-refusal o word _ _ (p .kind-in) ∙ rw (overall-back o word (p .kind-in) (p .line-in), p .named-in, p .altered-in, p .bits-in)
 change-back (Refused r) h = rw (parts r h .kind-in) (ap Refused (refusal-back r h))
+
+pub write-back : (reply : WriteReply) → WriteFits reply → writeIn (packWrite reply) ≡ reply
+write-back (Written n) h = let p = done-parts n h in rw (p .kind-in) (ap Written (p .length-in))
+write-back (WriteRefused r) h = rw (parts r h .kind-in) (ap WriteRefused (refusal-back r h))

@@ -1,4 +1,4 @@
--- Every refusal of a check or a change is in range. Assumes nothing.
+-- Every refusal of a call is in range. Assumes nothing.
 use Prim.Native.Nat.{ℕ, _≤_, _<_, _^_}
 use mathlib.Core.Path.{_≡_}
 use mathlib.Core.List.{List}
@@ -8,8 +8,8 @@ use lib.Dec.{ltb, leb}
 use lib.ListN.{length, length-take}
 use Rattle.refusal.specs.declared.Refusal.{Refusal}
 use Rattle.refusal.specs.declared.Subject.{Subject}
-use Rattle.refusal.specs.declared.Subject.the-variants.{Values, Verdicts, Call}
-use Rattle.refusal.specs.Numbers.{valueDoesNotFit, tooShort, noSuchVariable, heldDoesNotFit}
+use Rattle.refusal.specs.declared.Subject.the-variants.{Values, Verdicts, Output, Call}
+use Rattle.refusal.specs.Numbers.{valueDoesNotFit, tooShort, notSatisfied, noSuchVariable, heldDoesNotFit}
 use Rattle.refusal.specs.Lists.{firstFrom}
 use Rattle.refusal.specs.Result.{refusal}
 use Rattle.refusal.proofs.ListLaws.{first-below}
@@ -17,11 +17,15 @@ use Rattle.refusal.proofs.RefusesLaws.{Refuses, refuses-accepted, refuses-bind,
 use Rattle.constraint.specs.File.{Variable, File, widthAt}
 use Rattle.constraint.specs.Read.{readFile}
 use Rattle.constraint.specs.Sound.{SoundFile}
-use Rattle.judge.specs.Judge.{verdictDisregarded}
+use Rattle.judge.specs.Judge.{verdictDisregarded, freshVerdicts, overallOf}
 use Rattle.judge.specs.InUse.{rowInUse, verdictsInUse, valueWords, firstUnfit}
 use Rattle.judge.proofs.UnfitLaws.{unfit}
 use Rattle.answer.specs.Read.{readAnswer}
+use Rattle.writer.specs.Text.{answerText}
+use Rattle.writer.specs.Write.{isSatisfied, writingFor}
+use Rattle.clean_text.specs.Text.{cleanText}
 use Rattle.tables.specs.Check.{checkingFor, checking}
+use Rattle.clean.specs.Clean.{cleaning}
 use Rattle.moves.specs.Change.{numbersFit, changingFor}
 use Rattle.spear.proofs.PackLaws.{RefusalFits}
 use Rattle.spear.proofs.FileNumberLaws.{FileNumber, file-numbered, answer-numbered}
@@ -81,3 +85,21 @@ module _ (f : File) (sound : SoundFile f) (values verdicts : List ℕ) where
       refuses-then (numbers-fit f i v) (
       refuses-then (refuses-none (firstUnfit (f .variables) (rowInUse f values)) _ unfit-place)
       (refuses-none (firstFrom (ltb verdictDisregarded) 0 (verdictsInUse f verdicts)) _ verdict-place))))
+
+  -- ---- the writing of an answer
+  pub writing-fits : (output : List ℕ) → Refuses RefusalFits (writingFor f values output)
+  unfolding writingFor
+  writing-fits output =
+      refuses-ensure (leb (length (f .variables)) (length values)) _ (at-start Values tooShort (omega arith)) (
+      refuses-then (refuses-none (firstUnfit (f .variables) (rowInUse f values)) _ unfit-place) (
+      refuses-ensure (isSatisfied (overallOf (freshVerdicts f (rowInUse f values)))) _ (at-start Values notSatisfied (omega arith)) (
+      refuses-ensure (leb (length (answerText (f .variables) (rowInUse f values))) (length output)) _ (at-start Output tooShort (omega arith))
+      refuses-accepted)))
+
+-- ---- the cleaning
+pub cleaning-fits : (constraint output : List ℕ) → Refuses RefusalFits (cleaning constraint output)
+unfolding cleaning
+cleaning-fits constraint output =
+    refuses-bind (file-fits constraint) λ f.
+    refuses-ensure (leb (length (cleanText f)) (length output)) _ (at-start Output tooShort (omega arith))
+    refuses-accepted

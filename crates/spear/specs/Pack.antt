@@ -18,8 +18,13 @@ use Rattle.tables.specs.declared.CheckReply.{CheckReply}
 use Rattle.tables.specs.declared.CheckReply.the-variants.{Checked, Refused as CheckRefused}
 use Rattle.moves.specs.declared.ChangeReply.{ChangeReply}
 use Rattle.moves.specs.declared.ChangeReply.the-variants.{Changed, Refused}
+use Rattle.printing.specs.declared.WriteReply.{WriteReply}
+use Rattle.printing.specs.declared.WriteReply.the-variants.{Written, Refused as WriteRefused}
+use Rattle.printing.specs.Output.{WriteOutcome}
+use Rattle.writer.specs.Write.{writeOutcome}
 use Rattle.tables.specs.Check.{CheckOutcome, checkOutcome}
 use Rattle.tables.specs.Claims.{Satisfies}
+use Rattle.clean.specs.Clean.{cleanOutcome}
 use Rattle.moves.specs.Change.{ChangeOutcome, changeOutcome}
 
 -- PACKING
@@ -35,6 +40,14 @@ kindRefused = 3
 -- that kind in the lowest byte, the number and the subject in a byte each, and the position in 40 bits
 unfoldable pub refusalWord : ℕ → ℕ → ℕ → ℕ
 refusalWord number subject position = kindRefused + number % 2 ^ 8 * 2 ^ 8 + subject % 2 ^ 8 * 2 ^ 16 + position % 2 ^ 40 * 2 ^ 24
+
+-- the kind of a text that is written
+abbrev pub kindDone : ℕ
+kindDone = 4
+
+-- that kind in the lowest byte, and the text's length above it
+unfoldable pub doneWord : ℕ → ℕ
+doneWord length = kindDone + length % 2 ^ 56 * 2 ^ 8
 
 -- the line of a verdict, 0 where it names none
 abbrev pub decidingLine : Overall → ℕ
@@ -61,6 +74,10 @@ packCheck (CheckRefused r) = packRefusal r
 abbrev pub packChange : ChangeReply → ℕ
 packChange (Changed e) = verdictWord (overallNumber (e .overall)) (decidingLine (e .overall)) (e .named) (e .altered) (e .bits)
 packChange (Refused r) = packRefusal r
+
+abbrev pub packWrite : WriteReply → ℕ
+packWrite (Written n) = doneWord n
+packWrite (WriteRefused r) = packRefusal r
 
 -- UNPACKING, as the macros of the header do it
 
@@ -89,6 +106,9 @@ checkIn word = cond (eqb (kindIn word) kindRefused) (CheckRefused (refusalIn wor
 abbrev pub changeIn : ℕ → ChangeReply
 changeIn word = cond (eqb (kindIn word) kindRefused) (Refused (refusalIn word)) (Changed (effectIn word))
 
+abbrev pub writeIn : ℕ → WriteReply
+writeIn word = cond (eqb (kindIn word) kindRefused) (WriteRefused (refusalIn word)) (Written (bitsFrom word 8 56))
+
 -- NOTHING IS LOST
 
 -- what a call answers is what its word unpacks to
@@ -97,6 +117,12 @@ CheckKept = (constraint answer values verdicts : List ℕ) → checkIn (packChec
 
 abbrev pub ChangeKept : Type 0
 ChangeKept = (constraint values verdicts : List ℕ) (i v : ℕ) → changeIn (packChange (changeOutcome constraint values verdicts i v .reply)) ≡ changeOutcome constraint values verdicts i v .reply
+
+abbrev pub CleanKept : Type 0
+CleanKept = (constraint output : List ℕ) → writeIn (packWrite (cleanOutcome constraint output .reply)) ≡ cleanOutcome constraint output .reply
+
+abbrev pub WriteKept : Type 0
+WriteKept = (constraint values output : List ℕ) → writeIn (packWrite (writeOutcome constraint values output .reply)) ≡ writeOutcome constraint values output .reply
 
 -- DEMAND 2: the kind of a check's word is 0 exactly when the answer satisfies the constraint file and the tables are long enough
 abbrev pub KindZeroExactly : Type 0
@@ -115,3 +141,11 @@ packedCheck o = record { word = packCheck (o .reply); values = o .values; verdic
 
 abbrev pub packedChange : ChangeOutcome → Packed
 packedChange o = record { word = packChange (o .reply); values = o .values; verdicts = o .verdicts }
+
+-- of a writer: the word and the output room at exit
+pub record PackedText : Type 0 where
+  pub word : ℕ
+  pub output : List ℕ
+
+abbrev pub packedWrite : WriteOutcome → PackedText
+packedWrite o = record { word = packWrite (o .reply); output = o .output }

@@ -1,6 +1,6 @@
 // The claims: each is the contract of an empty function, so that a check lists it by name.
 ghost use Rattle.spear.specs.Code.{ZeroExactly, CodesAre};
-ghost use Rattle.spear.specs.Pack.{KindZeroExactly, CheckKept, ChangeKept};
+ghost use Rattle.spear.specs.Pack.{KindZeroExactly, CheckKept, ChangeKept, CleanKept, WriteKept};
 
 // Demand 2: the number of a check is 0 exactly when its conditions hold.
 pub fn zero_exactly()
@@ -25,4 +25,14 @@ pub fn check_kept()
 // The word of a change loses nothing of its reply.
 pub fn change_kept()
     ensures { λ _. ⌜ ChangeKept ⌝ }
+{}
+
+// The word of a cleaning loses nothing of its reply.
+pub fn clean_kept()
+    ensures { λ _. ⌜ CleanKept ⌝ }
+{}
+
+// The word of a writing loses nothing of its reply.
+pub fn write_kept()
+    ensures { λ _. ⌜ WriteKept ⌝ }
 {}

@@ -1,16 +1,21 @@
 // The calls for C programs. include/spear.h has their declarations.
+use clean::clean;
 use judge::verdicts::overall_number;
 use moves::change::change;
 use packing::pack_change;
 use packing::pack_check;
+use packing::pack_write;
 use tables::Report;
 use tables::check::check;
 use tables::reports::report;
+use writer::write;
 ghost use mathlib.Core.Path.{_≡_};
 ghost use Rattle.tables.specs.Check.{checkOutcome};
+ghost use Rattle.writer.specs.Write.{writeOutcome};
+ghost use Rattle.clean.specs.Clean.{cleanOutcome};
 ghost use Rattle.moves.specs.Change.{changeOutcome};
 ghost use Rattle.spear.specs.Code.{codeOf, checkCode};
-ghost use Rattle.spear.specs.Pack.{packedCheck, packedChange};
+ghost use Rattle.spear.specs.Pack.{packedCheck, packedChange, packedWrite};
 
 pub mod claims;
 mod packing;
@@ -60,4 +65,20 @@ pub extern "C" fn spear_change(
     ensures { λ r. ⌜ record { word = r; values = now (values .exit); verdicts = now (verdicts .exit) } ≡ packedChange (changeOutcome (now (constraints .entry)) (now (values .entry)) (now (verdicts .entry)) variable value) ⌝ }
 {
     pack_change(change(constraints, values, verdicts, variable, value))
+}
+
+// The clean spelling of a constraint file, into the caller's room.
+#[no_mangle]
+pub extern "C" fn spear_clean(constraints: &[u8], output: &mut [u8]) -> u64
+    ensures { λ r. ⌜ record { word = r; output = now (output .exit) } ≡ packedWrite (cleanOutcome (now (constraints .entry)) (now (output .entry))) ⌝ }
+{
+    pack_write(clean(constraints, output))
+}
+
+// The answer with the caller's values, into the caller's room.
+#[no_mangle]
+pub extern "C" fn spear_write(constraints: &[u8], values: &[u64], output: &mut [u8]) -> u64
+    ensures { λ r. ⌜ record { word = r; output = now (output .exit) } ≡ packedWrite (writeOutcome (now (constraints .entry)) (now (values .entry)) (now (output .entry))) ⌝ }
+{
+    pack_write(write(constraints, values, output))
 }

@@ -2,19 +2,22 @@
 use judge::Overall;
 use judge::verdicts::overall_number;
 use moves::ChangeReply;
+use printing::WriteReply;
 use refusal::Refusal;
 use refusal::Subject;
 use tables::CheckReply;
 ghost use mathlib.Core.Path.{_≡_};
 ghost use Prim.Native.Nat.{_<_};
-ghost use Rattle.spear.specs.Pack.{verdictWord, refusalWord, decidingLine, subjectNumber, packRefusal, packCheck, packChange};
+ghost use Rattle.spear.specs.Pack.{verdictWord, refusalWord, doneWord, decidingLine, subjectNumber, packRefusal, packCheck, packChange, packWrite};
 
-// The sizes of the parts: a byte, a number, a position.
+// The sizes of the parts: a byte, a number, a position, a length.
 const BYTE: u64 = 1 << 8;
 
 const NUMBER: u64 = 1 << 16;
 
 const POSITION: u64 = 1 << 40;
+
+const LENGTH: u64 = 1 << 56;
 
 // Where a part starts, as what it is multiplied by.
 const AT_8: u64 = 1 << 8;
@@ -27,8 +30,10 @@ const AT_40: u64 = 1 << 40;
 
 const AT_56: u64 = 1 << 56;
 
-// The kind of a refusal.
+// The kinds of a refusal, and of a text that is written.
 const KIND_REFUSED: u64 = 3;
+
+const KIND_DONE: u64 = 4;
 
 fn verdict_word(kind: u64, line: u64, named: u64, altered: u64, bits: u64) -> u64
     requires { ⌜ kind < 256 ⌝ }
@@ -45,6 +50,12 @@ fn refusal_word(number: u64, subject: u64, position: u64) -> u64
     ensures { λ r. ⌜ r ≡ refusalWord number subject position ⌝ }
 {
     KIND_REFUSED + number % BYTE * AT_8 + subject % BYTE * AT_16 + position % POSITION * AT_24
+}
+
+fn done_word(length: u64) -> u64
+    ensures { λ r. ⌜ r ≡ doneWord length ⌝ }
+{
+    KIND_DONE + length % LENGTH * AT_8
 }
 
 fn deciding_line(overall: Overall) -> u64
@@ -105,5 +116,14 @@ pub(crate) fn pack_change(reply: ChangeReply) -> u64
             )
         }
         ChangeReply::Refused(r) => pack_refusal(r),
+    }
+}
+
+pub(crate) fn pack_write(reply: WriteReply) -> u64
+    ensures { λ r. ⌜ r ≡ packWrite reply ⌝ }
+{
+    match reply {
+        WriteReply::Written(n) => done_word(n as u64),
+        WriteReply::Refused(r) => pack_refusal(r),
     }
 }
