@@ -1,145 +1,133 @@
--- An accepted file can be spelt again: what each line keeps. Assumes nothing.
-use Prim.Native.Nat.{ℕ, zero, suc, _≤_}
-use mathlib.Core.Path.{_≡_, refl, ap, _∙_}
-use mathlib.Core.Bool.{not, _&&_}
-use mathlib.Core.List.{List, [], _∷_}
+-- Each token of a clean text is a word that spells what it was made from, in no more bytes than the token that it was read from. Assumes nothing.
+use Prim.Native.Nat.{ℕ, _/_, _^_, _≤_, _<_}
+use Prim.Native.Char.{code}
+use mathlib.Core.Path.{_≡_, refl, sym, ap}
+use mathlib.Core.Bool.{true, false, _&&_}
+use mathlib.Core.List.{List, [], _∷_, _++_, append-assoc}
 use mathlib.Core.Option.{some}
+use native.Mathlib.Decide.{decLt}
+use native.Mathlib.Nat.{mod-le, mod-lt, mod-eq-of-lt}
 use native.Mathlib.Omega.{arith}
-use lib.Dec.{eqb, ltb}
-use lib.ListN.{length}
-use borrow.Author.Tests.{eqb-true}
+use lib.Pow.{pow-pos}
+use lib.Dec.{eqb}
+use lib.ListN.{length, length-append}
+use borrow.Author.Tests.{ne-eqb, le-leb}
 use Rattle.edition.specs.declared.Edition.{Edition}
-use Rattle.edition.specs.Edition.{edition10, maxLines}
-use Rattle.refusal.specs.declared.Subject.the-variants.{Constraint}
-use Rattle.refusal.specs.Numbers.{wrongVersion, wrongExpectation}
-use Rattle.refusal.specs.Lists.{isThere}
-use Rattle.refusal.specs.Result.{accepted}
-use Rattle.refusal.proofs.ListLaws.{is-there}
-use Rattle.refusal.proofs.ResultLaws.{never, Yields, yields-accepted, yields-refused, yields-bind, yields-ensure, yields-given, yields-also, yields-itself}
-use Rattle.arithmetic.specs.Rules.{arity}
-use Rattle.text.specs.Lines.{TextLine, Token, arguments}
-use Rattle.text.proofs.ReadingLaws.{yields-next, yields-no-more, keeps-text}
+use Rattle.edition.specs.Edition.{edition10, editionNumbered}
+use Rattle.refusal.specs.Lists.{every}
+use Rattle.refusal.specs.SubjectWords.{ascii}
+use Rattle.refusal.proofs.ListLaws.{cond-some}
+use Rattle.arithmetic.specs.declared.Word.{Word}
+use Rattle.text.specs.Bytes.{isDigit}
+use Rattle.text.specs.Spelling.{isName, isNumeral, decimal, decimalFrom, maxDigits, maxWidthDigits, leadingZero}
+use Rattle.text.proofs.NumberLaws.{numeral-parts}
+use Rattle.text.proofs.SeenLaws.{isSeen, numeral-seen}
 use Rattle.constraint.specs.declared.Operand.{Operand}
-use Rattle.constraint.specs.declared.Operands.{Operands}
-use Rattle.constraint.specs.declared.Line.{Line}
-use Rattle.constraint.specs.declared.Kind.{Kind}
-use Rattle.constraint.specs.declared.Kind.the-variants.{Skipped, OfVersion, OfExpectation, OfDeclarations, OfStatement, OfNoKind}
-use Rattle.constraint.specs.declared.Form.{Form}
-use Rattle.constraint.specs.File.{Variable, File, emptyFile, withVersion, withExpectation, withVariable, withLine, editionOf}
-use Rattle.constraint.specs.TypeRules.{wellTyped}
-use Rattle.constraint.specs.Sound.{Each}
-use Rattle.constraint.specs.Read.{inHeader, versionOf, readVersion, expectationOf, readExpectation, declare, declareAll, readDeclarations, inFront, readOperands, readOperation, nextOutput, readStatement, kindOf, readAs, readLine, readFile}
-use Rattle.constraint.proofs.EachLaws.{each-last, each-none}
-use Rattle.constraint.proofs.OperationLaws.{Present, next-yields, packed}
-use Rattle.constraint.proofs.TokenLaws.{single-yields, add-yields}
-use Rattle.spelling.specs.Operators.{operatorNamed}
-use Rattle.clean_text.proofs.EditionLaws.{only-edition}
-use Rattle.clean_text.proofs.TokenCosts.{expectation-is}
+use Rattle.constraint.specs.declared.Operand.the-variants.{Absent, Var, Const}
+use Rattle.constraint.specs.File.{Variable, nameAt}
+use Rattle.constraint.specs.Sound.{Each, SoundVariable}
+use Rattle.constraint.specs.Read.{maxVersionDigits}
+use Rattle.constraint.proofs.NamedLaws.{named-sound}
+use Rattle.constraint.proofs.SpacedLaws.{SeenWord, word-name, word-more}
+use Rattle.plain.specs.Says.{SpellsVersion, SpellsWidth, SpellsVariable, SpellsConstant, SpellsOperand}
+use Rattle.printing.specs.Digits.{digit, digitsIn, digits}
+use Rattle.printing.proofs.DigitLaws.{digits-one, digits-step}
+use Rattle.printing.proofs.DecimalLaws.{digits-all, digits-numeral, digits-make}
+use Rattle.clean_text.specs.Text.{versionText, typeText, declarationText, constantText, operandTokens}
+use Rattle.clean_text.proofs.DigitCosts.{few-digits, digits-cost}
+
+-- ---- words
+pub word-digits : (v : ℕ) → SeenWord (digits v)
+word-digits v = record { seen = numeral-seen (digits v) (digits-all v); some-bytes = numeral-parts maxDigits (digits v) (digits-numeral v) .0 }
+
+word-typed : (s : List ℕ) (k : ℕ) → SeenWord s → SeenWord (s ++ typeText k)
+unfolding typeText every isSeen
+word-typed s k w = word-more s (ascii ":i" ++ digits k) w (word-digits k .seen)
+
+pub word-declaration : (x : Variable) → isName (x .name) ≡ true → SeenWord (declarationText x)
+unfolding declarationText
+word-declaration x e = word-typed (x .name) (x .width) (word-name (x .name) e)
+
+pub word-version : (e : Edition) → SeenWord (versionText e)
+unfolding versionText every isSeen
+word-version e = word-more (digits (e .major) ++ ascii ".") (digits (e .minor)) (word-more (digits (e .major)) (ascii ".") (word-digits (e .major)) refl) (word-digits (e .minor) .seen)
+
+-- ---- the version
+module _ (t : List ℕ) (e : Edition) (h : SpellsVersion t e) where
+  -- there is one edition
+  pub only-edition : e ≡ edition10
+  unfolding editionNumbered
+  only-edition = let p = cond-some (eqb (decimal (h .major)) 1 && eqb (decimal (h .minor)) 0) (some edition10) e (h .known) in cc (p .1)
+
+  pub version-spelt : SpellsVersion (versionText e) e
+  unfolding versionText digits digitsIn isNumeral every isDigit decimalFrom editionNumbered
+  version-spelt = rw only-edition (record { major = digits 1; minor = digits 0; spelt = refl; major-digits = refl; minor-digits = refl; known = refl })
+
+  pub version-cost : length (versionText e) ≤ length t
+  unfolding versionText digits digitsIn
+  version-cost = rw only-edition (omega (arith, ap length (h .spelt), length-append (h .major ++ ascii ".") (h .minor), length-append (h .major) (ascii "."), numeral-parts maxVersionDigits (h .major) (h .major-digits), numeral-parts maxVersionDigits (h .minor) (h .minor-digits)))
+
+-- ---- types
+-- digits have no leading zero, of a number below a hundred
+no-zero : (k : ℕ) → k < 100 → leadingZero (digits k) ≡ false
+unfolding leadingZero
+no-zero k h = elim (decLt k 10) [
+  | yes p ↦ rw (digits-one k p)
+  | no p ↦ rw (digits-step k (omega arith) (omega arith), digits-one (k / 10) (omega arith)) (ne-eqb (digit (k / 10)) (code "0") (omega arith))
+]
+
+module _ (d : List ℕ) (k : ℕ) (h : SpellsWidth d k) where
+  width-spelt : SpellsWidth (digits k) k
+  unfolding isNumeral
+  width-spelt =
+      let w = h .width in
+      let n = few-digits maxWidthDigits k (omega arith) (omega arith) (omega arith) in
+      record { numeral = rw (le-leb 1 (length (digits k)) (word-digits k .some-bytes), le-leb (length (digits k)) maxWidthDigits n, digits-all k); no-zero = no-zero k (omega arith); makes = digits-make k (omega arith); width = w }
+
+  -- a text in front of a type, no longer than the one that stood there
+  typed-cost : (t s s′ : List ℕ) → t ≡ s′ ++ ascii ":i" ++ d → length s ≤ length s′ → length (s ++ typeText k) ≤ length t
+  unfolding typeText
+  typed-cost t s s′ e n =
+      let w = h .width in
+      let c = digits-cost maxWidthDigits k d (h .numeral) (omega (arith, h .makes)) (omega arith) in
+      omega (arith, c, ap length e, length-append (s′ ++ ascii ":i") d, length-append s′ (ascii ":i"), length-append s (ascii ":i" ++ digits k))
+
+-- ---- declarations
+module _ (t : List ℕ) (x : Variable) (h : SpellsVariable t x) where
+  pub variable-spelt : SpellsVariable (declarationText x) x
+  unfolding declarationText typeText
+  variable-spelt = record { width-digits = digits (x .width); spelt = sym (append-assoc (x .name) (ascii ":i") (digits (x .width))); width = width-spelt (h .width-digits) (x .width) (h .width) }
+
+  pub variable-cost : length (declarationText x) ≤ length t
+  unfolding declarationText
+  variable-cost = typed-cost (h .width-digits) (x .width) (h .width) t (x .name) (x .name) (h .spelt) (omega arith)
 
 -- ---- operands
--- n operands in their places, all of them there, and no others
-pub record Whole (xs : List Variable) (n : ℕ) (os : Operands) : Type 0 where
-  pub operands : List Operand
-  pub count : n ≡ length operands
-  pub there : Each (Present xs) operands
-  pub are : os ≡ packed operands
+module _ (t : List ℕ) (w : Word) (h : SpellsConstant t w) where
+  -- it is kept reduced
+  reduced : (w .value < 2 ^ w .width) × (w .value ≤ decimal (h .value-digits))
+  reduced = rw (h .value) (mod-lt (decimal (h .value-digits)) (pow-pos (w .width)), mod-le (decimal (h .value-digits)) (2 ^ w .width))
 
-operands-whole : (xs : List Variable) (l : TextLine) (n : ℕ) (ts : List Token) → Yields (λ p. Whole xs n (p .0)) (readOperands xs l n ts)
-unfolding readOperands
-operands-whole xs l zero ts = yields-accepted (record { operands = []; count = refl; there = tt; are = refl })
-operands-whole xs l (suc n) ts =
-    yields-bind (next-yields xs l ts) λ p h.
-    yields-bind (operands-whole xs l n (p .1)) λ q k.
-    yields-accepted (record { operands = p .0 ∷ k .operands; count = ap suc (k .count); there = (h, k .there); are = ap (inFront (p .0)) (k .are) })
+  constant-spelt : SpellsConstant (constantText w) w
+  unfolding constantText typeText
+  constant-spelt =
+      let made = digits-make (w .value) (omega (arith, reduced, h .below)) in
+      record { value-digits = digits (w .value); width-digits = digits (w .width); spelt = sym (append-assoc (digits (w .value)) (ascii ":i") (digits (w .width))); numeral = digits-numeral (w .value); width = width-spelt (h .width-digits) (w .width) (h .width); below = omega (arith, made, reduced, h .below); value = rw made (sym (mod-eq-of-lt (reduced .0))) }
 
--- the operands of a line are those that its operator takes
-abbrev pub WholeLine : List Variable → Line → Type 0
-WholeLine xs l = Whole xs (arity (l .operator)) (l .operands)
+  constant-cost : length (constantText w) ≤ length t
+  unfolding constantText
+  constant-cost = typed-cost (h .width-digits) (w .width) (h .width) t (digits (w .value)) (h .value-digits) (h .spelt) (digits-cost maxDigits (w .value) (h .value-digits) (h .numeral) (reduced .1) (omega (arith, reduced, h .below)))
 
--- ---- what holds besides being sound
--- of as much of a file as is read
-pub record Kept (f : File) : Type 0 where
-  pub known : (e : Edition) → f .version ≡ some e → e ≡ edition10
-  pub expectation : (n : ℕ) → f .expectation ≡ some n → n ≤ 1
-  pub lines : Each (WholeLine (f .variables)) (f .lines)
+-- an operand has one token, a word that spells it
+pub record Respelt (xs : List Variable) (t : List ℕ) (o : Operand) : Type 0 where
+  pub token : List ℕ
+  pub tokens : operandTokens xs o ≡ token ∷ []
+  pub spelt : SpellsOperand xs token o
+  pub word : SeenWord token
+  pub cost : length token ≤ length t
 
--- of an accepted file
-pub record Respeltable (f : File) : Type 0 where
-  pub version : f .version ≡ some edition10
-  pub kept : Kept f
-
--- ---- lines
-declare-all-keeps : (f : File) (ts : List Token) → length (f .lines) ≡ 0 → Kept f → Yields Kept (declareAll f ts)
-unfolding declareAll
-declare-all-keeps f [] n h = yields-accepted h
-declare-all-keeps f (t ∷ ts) n h =
-    yields-bind (yields-itself (declare (editionOf f) (f .variables) t)) λ x _.
-    declare-all-keeps (withVariable f x) ts n (record { known = h .known; expectation = h .expectation; lines = each-none _ (f .lines) n })
-
-module _ (f : File) (l : TextLine) where
-  operation-whole : (output : Operand) (ts : List Token) → Yields (WholeLine (f .variables)) (readOperation f l output ts)
-  unfolding readOperation
-  operation-whole output ts =
-      yields-next Constraint l ts λ p _.
-      yields-given (operatorNamed (editionOf f) (p .0 .bytes)) _ λ op _.
-      yields-bind (operands-whole (f .variables) l (arity op) (p .1)) λ q k.
-      let line : Line = record { output = output; operator = op; operands = q .0 } in
-      yields-no-more Constraint (q .1) λ _.
-      yields-ensure (wellTyped (f .variables) line) _ λ _.
-      yields-accepted k
-
-  statement-whole : (form : Form) → Yields (WholeLine (f .variables)) (readStatement form f l)
-  unfolding readStatement
-  statement-whole form =
-      yields-ensure (ltb (length (f .lines)) maxLines) _ λ _.
-      yields-bind (yields-itself (nextOutput form (f .variables) l (arguments l))) λ p _.
-      operation-whole (p .0) (p .1)
-
-  module _ (h : Kept f) where
-    version-keeps : Yields Kept (readVersion f l)
-    unfolding readVersion
-    version-keeps = single-yields (inHeader f && not (isThere (f .version))) versionOf wrongVersion (withVersion f) l λ t e _ _ p.
-        record { known = λ d q. let z : e ≡ d = cc q in rw (← z) (only-edition (t .bytes) e p); expectation = h .expectation; lines = h .lines }
-
-    expectation-keeps : Yields Kept (readExpectation f l)
-    unfolding readExpectation
-    expectation-keeps = single-yields (inHeader f && not (isThere (f .expectation))) expectationOf wrongExpectation (withExpectation f) l λ t n _ _ p.
-        record { known = h .known; expectation = λ m q. let z : n ≡ m = cc q in omega (arith, expectation-is (t .bytes) n p); lines = h .lines }
-
-    declarations-keep : Yields Kept (readDeclarations f l)
-    unfolding readDeclarations inHeader
-    declarations-keep =
-        yields-ensure (eqb (length (f .lines)) 0) _ λ e.
-        yields-next Constraint l (arguments l) λ p _.
-        declare-all-keeps f (p .0 ∷ p .1) (eqb-true (length (f .lines)) 0 e) h
-
-    statement-keeps : (form : Form) → Yields (λ line. Kept (withLine f line)) (readStatement form f l)
-    statement-keeps form = yields-also (λ line k. record { known = h .known; expectation = h .expectation; lines = each-last (WholeLine (f .variables)) (f .lines) line (h .lines) k }) (statement-whole form)
-
-    as-keeps : (k : Kind) → Yields Kept (readAs k f l)
-    unfolding readAs
-    as-keeps Skipped = yields-accepted h
-    as-keeps OfVersion = version-keeps
-    as-keeps OfExpectation = expectation-keeps
-    as-keeps OfDeclarations = declarations-keep
-    as-keeps (OfStatement form) = add-yields f (statement-keeps form)
-    as-keeps OfNoKind = yields-refused
-
-    line-keeps : Yields Kept (readLine f l)
-    unfolding readLine
-    line-keeps = as-keeps (kindOf (l .bytes))
-
--- ---- the file
-empty-kept : Kept emptyFile
-empty-kept = record { known = λ e q. never (cc q); expectation = λ n q. never (cc q); lines = tt }
-
-file-yields : (bytes : List ℕ) → Yields Respeltable (readFile bytes)
-unfolding readFile
-file-yields bytes =
-    yields-bind (keeps-text Constraint readLine line-keeps emptyFile bytes empty-kept) λ f h.
-    yields-ensure (isThere (f .version)) _ λ t.
-    let v = is-there (f .version) t in
-    yields-accepted (record { version = v .1 ∙ ap some (h .known (v .0) (v .1)); kept = h })
-
-pub accepted-is-respeltable : (bytes : List ℕ) (f : File) → readFile bytes ≡ accepted f → Respeltable f
-accepted-is-respeltable bytes f e = file-yields bytes .holds f e
+pub operand-again : (e : Edition) (xs : List Variable) → Each (SoundVariable e) xs → (t : List ℕ) (o : Operand) → SpellsOperand xs t o → Respelt xs t o
+unfolding operandTokens constantText
+operand-again e xs sound t Absent h = absurd h
+operand-again e xs sound t (Var i) h = record { token = nameAt xs i; tokens = refl; spelt = (h .0, refl); word = word-name (nameAt xs i) (named-sound e xs i sound (h .0) .0); cost = omega (arith, ap length (h .1)) }
+operand-again e xs sound t (Const w) h = record { token = constantText w; tokens = refl; spelt = constant-spelt t w h; word = word-typed (digits (w .value)) (w .width) (word-digits (w .value)); cost = constant-cost t w h }

@@ -1,100 +1,112 @@
--- The `c` and `p` lines of a clean text are read to the lines that they were made from. Assumes nothing.
-use Prim.Native.Nat.{ℕ, _≤_, _<_}
-use mathlib.Core.Path.{_≡_, refl, ap, _∙_}
-use mathlib.Core.List.{List, [], _∷_, _++_, flatMap, append-nil, append-assoc}
+-- The `c` and `p` lines of a clean text spell the lines that they were made from, in no more bytes. Assumes nothing.
+use Prim.Native.Nat.{ℕ, _≤_}
+use mathlib.Core.Path.{_≡_, refl, ap, subst, _∙_}
+use mathlib.Core.List.{List, [], _∷_, map, flatMap, append-nil, append-assoc}
 use native.Mathlib.Omega.{arith}
-use lib.ListN.{length}
-use borrow.Author.Tests.{lt-ltb}
+use lib.ListN.{length, getD}
 use Rattle.edition.specs.declared.Edition.{Edition}
-use Rattle.edition.specs.Edition.{maxLines}
-use Rattle.refusal.specs.Result.{accepted}
-use Rattle.arithmetic.specs.Rules.{arity, maxOperands}
-use Rattle.arithmetic.proofs.RuleLaws.{arity-bounds}
-use Rattle.text.specs.Lines.{TextLine, Token, arguments}
-use Rattle.text.proofs.TokenLaws.{tokenBytes, first-token, no-token}
-use Rattle.constraint.specs.declared.Operand.{Operand}
-use Rattle.constraint.specs.declared.Operand.the-variants.{Absent}
-use Rattle.constraint.specs.declared.Operands.{Operands}
-use Rattle.constraint.specs.declared.Line.{Line}
-use Rattle.constraint.specs.declared.Kind.the-variants.{OfStatement}
-use Rattle.constraint.specs.declared.Form.the-variants.{WithOutput, Predicate}
-use Rattle.constraint.specs.File.{Variable, File, withLine, editionOf}
-use Rattle.constraint.specs.Sound.{Each, SoundLine, SoundVariable, Distinct}
-use Rattle.constraint.specs.Read.{nextOperand, readOperands, readOperation, nextOutput, readStatement, readAs}
-use Rattle.constraint.proofs.EachLaws.{each-append}
-use Rattle.constraint.proofs.SpacedLaws.{Word}
-use Rattle.constraint.proofs.OperationLaws.{Present, packed}
+use Rattle.refusal.specs.SubjectWords.{ascii}
+use Rattle.text.specs.Lines.{leads}
+use Rattle.text.proofs.SeenLaws.{isSeen}
 use Rattle.spelling.specs.Operators.{spellingOf}
 use Rattle.spelling.proofs.SpellsLaws.{spells-exactly, spelling-seen}
-use Rattle.clean_text.specs.Text.{operandTokens, operandsTokens, statementTokens}
-use Rattle.clean_text.proofs.RespeltLaws.{Whole, WholeLine}
-use Rattle.clean_text.proofs.AgainLaws.{operand-words, operand-again}
+use Rattle.constraint.specs.declared.Operand.{Operand}
+use Rattle.constraint.specs.declared.Operand.the-variants.{Absent, Var, Const}
+use Rattle.constraint.specs.declared.Operands.{Operands}
+use Rattle.constraint.specs.declared.Line.{Line}
+use Rattle.constraint.specs.File.{Variable}
+use Rattle.constraint.specs.Sound.{Each, SoundVariable}
+use Rattle.constraint.proofs.SpacedLaws.{SeenWord}
+use Rattle.plain.specs.Says.{Said, leadingLetter, SpellsOperand, SpellsOperands, SpellsOperator, SpellsOperation, SpellsLine, with-output, predicate, Pairwise}
+use Rattle.plain.proofs.OperatorLaws.{operator-again}
+use Rattle.clean_text.specs.Text.{operandTokens, operandsTokens, statementLetter, statementTokens, statementLine, statementLines}
+use Rattle.clean_text.proofs.Weights.{textsWeight, saidWeight, saidsWeight}
+use Rattle.clean_text.proofs.RespeltLaws.{operand-again}
+use Rattle.clean_text.proofs.SpokenLaws.{Spoken}
 
--- ---- the tokens are words
-pub statement-words : (e : Edition) (xs : List Variable) → Each (SoundVariable e) xs → (l : Line) → SoundLine xs l → Each Word (statementTokens e xs l)
-unfolding statementTokens operandsTokens
-statement-words e xs sound l h =
-    let o = spelling-seen e (l .operator) in
-    let t = operandTokens xs in
-    let os = l .operands in
-    let words = operand-words e xs sound in
-    each-append Word (t (l .output)) (spellingOf e (l .operator) ∷ operandsTokens xs os) (words (l .output) (h .output)) (
-      record { seen = o .0; some-bytes = o .1 },
-      each-append Word (t (os .first) ++ t (os .second)) (t (os .third)) (each-append Word (t (os .first)) (t (os .second)) (words (os .first) (h .first)) (words (os .second) (h .second))) (words (os .third) (h .third)),
-    )
+-- what such a line says
+abbrev pub statementSaid : Edition → List Variable → Line → Said
+statementSaid e xs l = record { letter = getD (statementLetter (l .output)) 0 0; tokens = statementTokens e xs l }
 
--- ---- operands
--- the tokens of three places are those of the operands in them
-tokens-packed : (xs : List Variable) (os : List Operand) → length os ≤ maxOperands → operandsTokens xs (packed os) ≡ flatMap (operandTokens xs) os
-unfolding operandsTokens operandTokens flatMap
-tokens-packed xs [] h = refl
-tokens-packed xs (a ∷ []) h = append-nil _
-tokens-packed xs (a ∷ b ∷ []) h = append-assoc (operandTokens xs a) (operandTokens xs b) []
-tokens-packed xs (a ∷ b ∷ c ∷ []) h = rw (append-nil, append-assoc)
-tokens-packed xs (a ∷ b ∷ c ∷ d ∷ os) h = absurd (omega arith)
+-- a line with an output is a `c` line
+output-letter : (xs : List Variable) (t : List ℕ) (o : Operand) → SpellsOperand xs t o → statementLetter o ≡ ascii "c"
+unfolding statementLetter
+output-letter xs t Absent h = absurd h
+output-letter xs t (Var i) h = refl
+output-letter xs t (Const w) h = refl
 
--- the next operand, and the tokens behind it
-record Next (xs : List Variable) (l : TextLine) (o : Operand) (ts : List Token) (ss : List (List ℕ)) : Type 0 where
-  later : List Token
-  reads : nextOperand xs l ts ≡ accepted (o, later)
-  are-later : tokenBytes later ≡ ss
+-- words in the place of others
+record Words (ts us : List (List ℕ)) : Type 0 where
+  words : Each SeenWord us
+  count : length us ≡ length ts
+  cost : textsWeight us ≤ textsWeight ts
 
-module _ (e : Edition) (xs : List Variable) (sound : Each (SoundVariable e) xs) (distinct : Distinct xs) (l : TextLine) where
-  next-again : (o : Operand) → Present xs o → (ts : List Token) (ss : List (List ℕ)) → tokenBytes ts ≡ operandTokens xs o ++ ss → Next xs l o ts ss
-  unfolding nextOperand
-  next-again o h ts ss a =
-      let p = operand-again e xs sound distinct o h in
-      let q = first-token ts (p .token) ss (rw (p .tokens) at a) in
-      record { later = q .1; reads = ap (nextOperand xs l) (q .2) ∙ rw (p .reads (q .0) (q .3)); are-later = q .4 }
+absent : (xs : List Variable) (os : List Operand) → SpellsOperands xs [] os → flatMap (operandTokens xs) os ≡ []
+unfolding operandTokens flatMap
+absent xs [] h = refl
+absent xs (o ∷ os) h = rw (h .0, absent xs os (h .1))
 
-  list-again : (os : List Operand) (ts : List Token) → Each (Present xs) os → tokenBytes ts ≡ flatMap (operandTokens xs) os → readOperands xs l (length os) ts ≡ accepted (packed os, [])
-  unfolding readOperands flatMap
-  list-again [] ts h a = rw (no-token ts a)
-  list-again (o ∷ os) ts h a = let p = next-again o (h .0) ts (flatMap (operandTokens xs) os) a in rw (p .reads, list-again os (p .later) (h .1) (p .are-later))
+module _ (e : Edition) (xs : List Variable) (sound : Each (SoundVariable e) xs) where
+  -- ---- operands
+  operands-again : (ts : List (List ℕ)) (os : List Operand) → SpellsOperands xs ts os → SpellsOperands xs (flatMap (operandTokens xs) os) os × Words ts (flatMap (operandTokens xs) os)
+  unfolding flatMap
+  operands-again [] os h = rw (absent xs os h) (h, record { words = tt; count = refl; cost = omega arith })
+  operands-again (t ∷ ts) [] h = absurd h
+  operands-again (t ∷ ts) (o ∷ os) h =
+      let p = operand-again e xs sound t o (h .0) in
+      let q = operands-again ts os (h .1) in
+      rw (p .tokens) ((p .spelt, q .0), record { words = (p .word, q .1 .words); count = omega (arith, q .1 .count); cost = omega (arith, p .cost, q .1 .cost) })
 
-  operands-again : (n : ℕ) (os : Operands) → n ≤ maxOperands → Whole xs n os → (ts : List Token) → tokenBytes ts ≡ operandsTokens xs os → readOperands xs l n ts ≡ accepted (os, [])
-  operands-again n os h w ts a = rw (w .count, w .are) (list-again (w .operands) ts (w .there) (rw (w .are, tokens-packed xs (w .operands) (omega (arith, w .count))) at a))
+  three-tokens : (os : Operands) → operandsTokens xs os ≡ flatMap (operandTokens xs) (os .first ∷ os .second ∷ os .third ∷ [])
+  unfolding operandsTokens flatMap
+  three-tokens os = rw (append-nil, append-assoc)
 
--- ---- a line
-module _ (f : File) (sound : Each (SoundVariable (editionOf f)) (f .variables)) (distinct : Distinct (f .variables)) (l : TextLine) (line : Line) (h : SoundLine (f .variables) line) (k : WholeLine (f .variables) line) where
-  operation-again : (ts : List Token) → tokenBytes ts ≡ spellingOf (editionOf f) (line .operator) ∷ operandsTokens (f .variables) (line .operands) → readOperation f l (line .output) ts ≡ accepted line
-  unfolding readOperation
-  operation-again ts a =
-      let q = first-token ts _ _ a in
-      rw (
-        q .2,
-        spells-exactly (editionOf f) (line .operator) (q .0 .bytes) .1 (q .3),
-        operands-again (editionOf f) (f .variables) sound distinct l (arity (line .operator)) (line .operands) (arity-bounds (line .operator) .1) k (q .1) (q .4),
-        h .type-rules,
-      )
+  -- ---- an operator and its operands
+  module _ (l : Line) where
+    abbrev operationTokens : List (List ℕ)
+    operationTokens = spellingOf e (l .operator) ∷ operandsTokens xs (l .operands)
 
-  module _ (room : length (f .lines) < maxLines) (a : tokenBytes (arguments l) ≡ statementTokens (editionOf f) (f .variables) line) where
-    pub predicate-again : line .output ≡ Absent → readAs (OfStatement Predicate) f l ≡ accepted (withLine f line)
-    unfolding readAs readStatement nextOutput statementTokens operandTokens
-    predicate-again o = rw (lt-ltb (length (f .lines)) maxLines room, ← o, operation-again (arguments l) (rw o at a))
+    operation-again : (ts : List (List ℕ)) → SpellsOperation e xs ts l → SpellsOperation e xs operationTokens l × Words ts operationTokens
+    operation-again ts h =
+        let s = spellingOf e (l .operator) in
+        let z : h .operator-token ≡ s = spells-exactly e (l .operator) (h .operator-token) .0 (operator-again e (h .operator-token) (l .operator) (h .operator-spelt)) in
+        let seen = spelling-seen e (l .operator) in
+        let q = operands-again (h .operand-tokens) _ (h .operands-spelt) in
+        rw (h .are, three-tokens (l .operands)) (
+          record { operator-token = s; operand-tokens = flatMap (operandTokens xs) _; are = refl; operator-spelt = subst (λ (t : List ℕ). SpellsOperator e t (l .operator)) z (h .operator-spelt); count = q .1 .count ∙ h .count; operands-spelt = q .0; type-rules = h .type-rules },
+          record { words = (record { seen = seen .0; some-bytes = seen .1 }, q .1 .words); count = omega (arith, q .1 .count); cost = omega (arith, q .1 .cost, ap length z) },
+        )
 
-    pub output-again : Present (f .variables) (line .output) → readAs (OfStatement WithOutput) f l ≡ accepted (withLine f line)
-    unfolding readAs readStatement nextOutput statementTokens
-    output-again p =
-        let q = next-again (editionOf f) (f .variables) sound distinct l (line .output) p (arguments l) _ a in
-        rw (lt-ltb (length (f .lines)) maxLines room, q .reads, operation-again (q .later) (q .are-later))
+    -- ---- a line
+    abbrev Again : Said → Type 0
+    Again s = Spoken (statementLine e xs l) (statementSaid e xs l) × SpellsLine e xs (statementSaid e xs l) l × (saidWeight (statementSaid e xs l) ≤ saidWeight s)
+
+    line-again : (s : Said) → SpellsLine e xs s l → Again s
+    unfolding statementLine statementTokens leadingLetter leads isSeen statementLetter operandTokens
+    line-again s (with-output output others k w o h) =
+        let p = operand-again e xs sound output (l .output) o in
+        let q = operation-again others h in
+        rw (output-letter xs output (l .output) o, p .tokens, k, w) (
+          record { letter = (refl, refl, refl, refl); words = (p .word, q .1 .words); is = refl },
+          with-output (p .token) operationTokens refl refl (p .spelt) (q .0),
+          omega (arith, p .cost, q .1 .cost),
+        )
+    line-again s (predicate k o h) =
+        let q = operation-again (s .tokens) h in
+        rw (ap statementLetter o, ap (operandTokens xs) o, k) (record { letter = (refl, refl, refl, refl); words = q .1 .words; is = refl }, predicate refl o (q .0), omega (arith, q .1 .cost))
+
+  -- ---- the lines in order
+  pub record Statements (ss : List Said) (ls : List Line) : Type 0 where
+    pub spoken : Pairwise Spoken (statementLines e xs ls) (map (statementSaid e xs) ls)
+    pub spelt : Pairwise (SpellsLine e xs) (map (statementSaid e xs) ls) ls
+    pub cost : saidsWeight (map (statementSaid e xs) ls) ≤ saidsWeight ss
+
+  pub statements-again : (ss : List Said) (ls : List Line) → Pairwise (SpellsLine e xs) ss ls → Statements ss ls
+  unfolding statementLines
+  statements-again [] [] p = record { spoken = tt; spelt = tt; cost = omega arith }
+  statements-again [] (l ∷ ls) p = absurd p
+  statements-again (s ∷ ss) [] p = absurd p
+  statements-again (s ∷ ss) (l ∷ ls) p =
+      let h = line-again l s (p .0) in
+      let q = statements-again ss ls (p .1) in
+      record { spoken = (h .0, q .spoken); spelt = (h .1, q .spelt); cost = omega (arith, h .2, q .cost) }

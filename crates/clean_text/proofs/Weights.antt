@@ -1,31 +1,33 @@
 -- How many bytes things take, with one byte more for each. Assumes nothing.
 use Prim.Native.Nat.{ℕ, suc, _+_}
 use mathlib.Core.Path.{_≡_, refl}
-use mathlib.Core.List.{List, [], _∷_, _++_, map, flatMap}
+use mathlib.Core.Bool.{cond}
+use mathlib.Core.List.{List, [], _∷_, _++_, flatMap}
 use native.Mathlib.Omega.{arith}
+use lib.Dec.{eqb}
 use lib.ListN.{length, length-append}
+use Rattle.plain.specs.Says.{Said}
 
--- the bytes of each, and one more for each
-abbrev pub weight : {A : Type 0} → (A → List ℕ) → List A → ℕ
-weight bytes [] = 0
-weight bytes (x ∷ xs) = suc (length (bytes x)) + weight bytes xs
-
--- of texts
+-- the bytes of texts, and one more for each
 abbrev pub textsWeight : List (List ℕ) → ℕ
-textsWeight = weight (λ s. s)
+textsWeight [] = 0
+textsWeight (s ∷ ss) = suc (length s) + textsWeight ss
 
-pub weight-append : {A : Type 0} (bytes : A → List ℕ) (xs ys : List A) → weight bytes (xs ++ ys) ≡ weight bytes xs + weight bytes ys
-weight-append bytes [] ys = omega arith
-weight-append bytes (x ∷ xs) ys = omega (arith, weight-append bytes xs ys)
+-- of a line: its letter, its tokens with a byte for each, and one more; nothing where it has no letter
+abbrev pub saidWeight : Said → ℕ
+saidWeight s = cond (eqb (s .letter) 0) 0 (2 + textsWeight (s .tokens))
 
-pub weight-map : {A : Type 0} (bytes : A → List ℕ) (xs : List A) → textsWeight (map bytes xs) ≡ weight bytes xs
-weight-map bytes [] = refl
-weight-map bytes (x ∷ xs) = omega (arith, weight-map bytes xs)
+abbrev pub saidsWeight : List Said → ℕ
+saidsWeight [] = 0
+saidsWeight (s ∷ ss) = saidWeight s + saidsWeight ss
 
--- nothing weighs nothing
-pub weight-none : {A : Type 0} (bytes : A → List ℕ) (xs : List A) → length xs ≡ 0 → weight bytes xs ≡ 0
-weight-none bytes [] e = refl
-weight-none bytes (x ∷ xs) e = absurd (omega arith)
+pub weight-append : (xs ys : List (List ℕ)) → textsWeight (xs ++ ys) ≡ textsWeight xs + textsWeight ys
+weight-append [] ys = omega arith
+weight-append (x ∷ xs) ys = omega (arith, weight-append xs ys)
+
+pub saids-append : (xs ys : List Said) → saidsWeight (xs ++ ys) ≡ saidsWeight xs + saidsWeight ys
+saids-append [] ys = omega arith
+saids-append (x ∷ xs) ys = omega (arith, saids-append xs ys)
 
 -- texts, each behind one byte
 pub length-joined : (c : ℕ) (ss : List (List ℕ)) → length (flatMap (λ s. c ∷ s) ss) ≡ textsWeight ss

@@ -28,7 +28,7 @@ each-here P [] x ys p = p .0
 each-here P (y ∷ xs) x ys p = each-here P xs x ys (p .1)
 
 -- more elements, and one element more
-pub each-append : {A : Type 0} (P : A → Type 0) (xs ys : List A) → Each P xs → Each P ys → Each P (xs ++ ys)
+each-append : {A : Type 0} (P : A → Type 0) (xs ys : List A) → Each P xs → Each P ys → Each P (xs ++ ys)
 each-append P [] ys p q = q
 each-append P (x ∷ xs) ys p q = (p .0, each-append P xs ys (p .1) q)
 

@@ -37,7 +37,7 @@ use Rattle.arithmetic.proofs.RuleLaws.{width-is}
 
 -- ---- operands
 -- a sound operand that is there
-abbrev pub Present : List Variable → Operand → Type 0
+abbrev Present : List Variable → Operand → Type 0
 Present xs Absent = ⊥
 Present xs (Var i) = SoundOperand xs (Var i)
 Present xs (Const w) = SoundOperand xs (Const w)
@@ -50,7 +50,7 @@ sound xs (Const w) h = h
 present-yields : (xs : List Variable) (t : Token) → Yields (Present xs) (readOperand xs t)
 present-yields xs t = operand-yields t xs (variable-within (t .bytes) xs) (λ _ _ w _. (width-is _ w, mod-lt _ (pow-pos _)))
 
-pub next-yields : (xs : List Variable) (l : TextLine) (ts : List Token) → Yields (λ p. Present xs (p .0)) (nextOperand xs l ts)
+next-yields : (xs : List Variable) (l : TextLine) (ts : List Token) → Yields (λ p. Present xs (p .0)) (nextOperand xs l ts)
 unfolding nextOperand
 next-yields xs l ts =
     yields-next Constraint l ts λ p _.

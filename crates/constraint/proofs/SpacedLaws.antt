@@ -18,22 +18,22 @@ use Rattle.text.proofs.SeenLaws.{isSeen, seen-solid, name-seen}
 use Rattle.constraint.specs.Sound.{Each}
 
 -- a word: bytes that are seen, one at least
-pub record Word (s : List ℕ) : Type 0 where
+pub record SeenWord (s : List ℕ) : Type 0 where
   pub seen : every isSeen s ≡ true
   pub some-bytes : 1 ≤ length s
 
-pub word-name : (s : List ℕ) → isName s ≡ true → Word s
+pub word-name : (s : List ℕ) → isName s ≡ true → SeenWord s
 word-name s e = record { seen = name-seen s e; some-bytes = name-length s e }
 
 -- one with more bytes behind it that are seen
-pub word-more : (s t : List ℕ) → Word s → every isSeen t ≡ true → Word (s ++ t)
+pub word-more : (s t : List ℕ) → SeenWord s → every isSeen t ≡ true → SeenWord (s ++ t)
 word-more s t w e = record { seen = every-append isSeen s t (w .seen) e; some-bytes = omega (arith, w .some-bytes, length-append s t) }
 
 -- words, each behind a space
 abbrev pub behindSpaces : List (List ℕ) → List ℕ
 behindSpaces = flatMap (λ s. code " " ∷ s)
 
-pub spaced-every : (p : ℕ → Bool) → p (code " ") ≡ true → ((b : ℕ) → isSeen b ≡ true → p b ≡ true) → (ss : List (List ℕ)) → Each Word ss → every p (behindSpaces ss) ≡ true
+pub spaced-every : (p : ℕ → Bool) → p (code " ") ≡ true → ((b : ℕ) → isSeen b ≡ true → p b ≡ true) → (ss : List (List ℕ)) → Each SeenWord ss → every p (behindSpaces ss) ≡ true
 unfolding flatMap every
 spaced-every p h f [] w = refl
 spaced-every p h f (s ∷ ss) w = rw h (every-append p s (behindSpaces ss) (every-weaken isSeen p f s (w .0 .seen)) (spaced-every p h f ss (w .1)))
@@ -49,7 +49,7 @@ unfoldable pub spacedTokens : ℕ → List (List ℕ) → List Token
 spacedTokens at [] = []
 spacedTokens at (s ∷ ss) = record { start = at + 1; bytes = s } ∷ spacedTokens (at + 1 + length s) ss
 
-pub spaced-tokens : (ss : List (List ℕ)) (at : ℕ) → Each Word ss → tokensFrom true at (behindSpaces ss) ≡ spacedTokens at ss
+pub spaced-tokens : (ss : List (List ℕ)) (at : ℕ) → Each SeenWord ss → tokensFrom true at (behindSpaces ss) ≡ spacedTokens at ss
 unfolding flatMap isSpace spacedTokens
 spaced-tokens [] at w = rw tokens-none
 spaced-tokens (s ∷ ss) at w =

@@ -48,7 +48,7 @@ module _ {A : Type 0} (parse : List ℕ → Option A) (b : Option A) where
   once-none a (set w x n e p k) = absurd (nil≢cons e)
 
 -- ---- pairs of joined lists
-pairs-append : {A B : Type 0} (R : A → B → Type 0) (us vs : List A) (xs ys : List B) → Pairwise R us xs → Pairwise R vs ys → Pairwise R (us ++ vs) (xs ++ ys)
+pub pairs-append : {A B : Type 0} (R : A → B → Type 0) (us vs : List A) (xs ys : List B) → Pairwise R us xs → Pairwise R vs ys → Pairwise R (us ++ vs) (xs ++ ys)
 pairs-append R [] vs [] ys p q = q
 pairs-append R [] vs (x ∷ xs) ys p q = absurd p
 pairs-append R (u ∷ us) vs [] ys p q = absurd p

@@ -20,11 +20,6 @@ pub not-there : {A : Type 0} (o : Option A) → not (isThere o) ≡ true → o �
 not-there none e = refl
 not-there (some a) e = never (cc e)
 
--- a thing that is there
-pub is-there : {A : Type 0} (o : Option A) → isThere o ≡ true → (a : A) × (o ≡ some a)
-is-there none e = never (cc e)
-is-there (some a) e = (a, refl)
-
 -- one that is there only where a test passes
 pub cond-some : {A : Type 0} (t : Bool) (o : Option A) (a : A) → cond t o none ≡ some a → (t ≡ true) × (o ≡ some a)
 cond-some true o a e = (refl, e)

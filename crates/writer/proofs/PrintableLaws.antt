@@ -17,7 +17,7 @@ use Rattle.printing.specs.Digits.{digits}
 use Rattle.writer.specs.Text.{settingText, settingsText}
 use Rattle.printing.proofs.DigitLaws.{digits-count}
 use Rattle.printing.proofs.DecimalLaws.{digits-all}
-use Rattle.constraint.proofs.SpacedLaws.{Word, word-name, word-more, behindSpaces, spaced-every}
+use Rattle.constraint.proofs.SpacedLaws.{SeenWord, word-name, word-more, behindSpaces, spaced-every}
 use Rattle.text.proofs.SeenLaws.{isSeen, numeral-seen}
 
 -- a variable with a short name, and a value that fits it
@@ -65,7 +65,7 @@ settings-spaced [] row = refl
 settings-spaced (x ∷ xs) [] = refl
 settings-spaced (x ∷ xs) (v ∷ row) = ap (λ (s : List ℕ). 32 ∷ settingBytes x v ++ s) (settings-spaced xs row)
 
-pub setting-words : (xs : List Variable) (row : List ℕ) → Printables xs row → Each Word (zipWith settingBytes xs row)
+pub setting-words : (xs : List Variable) (row : List ℕ) → Printables xs row → Each SeenWord (zipWith settingBytes xs row)
 unfolding zipWith every isSeen
 setting-words [] row g = tt
 setting-words (x ∷ xs) [] g = absurd g
