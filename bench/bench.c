@@ -1,4 +1,5 @@
-/* Times spear_check against plain_check, compiled at -O2 and at -O3, on files made here. Every file is satisfied. */
+/* Times the library's check, change and cleaning against the plain ones, compiled at -O2 and at -O3, on files
+   made here. Every file is satisfied. */
 
 #define _POSIX_C_SOURCE 199309L
 
@@ -311,10 +312,12 @@ static void make_files(struct files *files, const struct input *input)
 
 typedef uint32_t check(const uint8_t *, size_t, const uint8_t *, size_t);
 typedef uint32_t change(const uint8_t *, size_t, uint64_t *, uint8_t *, size_t, uint64_t);
+typedef ptrdiff_t clean(const uint8_t *, size_t, uint8_t *, size_t);
 
 /* plain.h's functions: the Makefile compiles plain.c twice, and renames them. */
 check plain_check_o2, plain_check_o3;
 change plain_change_o2, plain_change_o3;
+clean plain_clean_o2, plain_clean_o3;
 
 static double now(void)
 {
@@ -463,6 +466,156 @@ static void report_flips(const struct input *input)
            1e6 * by[2].best, 1e6 * by[3].best, by[1].best / by[2].best, by[1].best / by[3].best);
 }
 
+/* Cleaning, into a room as long as the file. */
+
+static struct text cleaned; /* by the last cleaning */
+
+static uint32_t clean_file(const uint8_t *constraints, size_t constraints_len,
+                           const uint8_t *answer, size_t answer_len)
+{
+    (void)answer, (void)answer_len;
+    uint64_t word = spear_clean(constraints, constraints_len, (uint8_t *)cleaned.bytes,
+                                constraints_len);
+    cleaned.length = SPEAR_LENGTH(word);
+    return SPEAR_KIND(word) != SPEAR_KIND_DONE;
+}
+
+static uint32_t plain_clean_file_o2(const uint8_t *constraints, size_t constraints_len,
+                                    const uint8_t *answer, size_t answer_len)
+{
+    (void)answer, (void)answer_len;
+    ptrdiff_t length = plain_clean_o2(constraints, constraints_len, (uint8_t *)cleaned.bytes,
+                                      constraints_len);
+    cleaned.length = (size_t)length;
+    return length < 0;
+}
+
+static uint32_t plain_clean_file_o3(const uint8_t *constraints, size_t constraints_len,
+                                    const uint8_t *answer, size_t answer_len)
+{
+    (void)answer, (void)answer_len;
+    ptrdiff_t length = plain_clean_o3(constraints, constraints_len, (uint8_t *)cleaned.bytes,
+                                      constraints_len);
+    cleaned.length = (size_t)length;
+    return length < 0;
+}
+
+/* A reading alone: a change without tables is refused right behind it, 21, or 23 without variables. */
+static uint32_t read_file(const uint8_t *constraints, size_t constraints_len,
+                          const uint8_t *answer, size_t answer_len)
+{
+    (void)answer, (void)answer_len;
+    uint64_t word = spear_change(constraints, constraints_len, NULL, 0, NULL, 0, 0, 0);
+    return SPEAR_KIND(word) != SPEAR_KIND_REFUSED || SPEAR_NUMBER(word) < 21;
+}
+
+static struct text cleaned_by(check *cleaner, const struct files *files)
+{
+    memset(cleaned.bytes, '.', sizeof cleaned.bytes);
+    if (reply_of(cleaner, files) != 0)
+        fail("a file isn't cleaned");
+    return cleaned;
+}
+
+/* All must leave the same in the room, behind the clean text too. */
+static void compare_cleanings(const struct files *files)
+{
+    static struct text by_spear, by_plain;
+    by_spear = cleaned_by(clean_file, files);
+    by_plain = cleaned_by(plain_clean_file_o2, files);
+    if (by_spear.length != by_plain.length ||
+        memcmp(by_spear.bytes, by_plain.bytes, sizeof by_spear.bytes) != 0)
+        fail("the clean texts differ");
+}
+
+static void report_cleaning(const char *name, const struct files *files)
+{
+    compare_cleanings(files);
+    struct measurement by[] = {
+        measurement_of(read_file, files),
+        measurement_of(clean_file, files),
+        measurement_of(plain_clean_file_o2, files),
+        measurement_of(plain_clean_file_o3, files),
+    };
+    take_turns(by, sizeof by / sizeof *by, files);
+    double reading = by[0].best, cleaning = by[1].best, o2 = by[2].best, o3 = by[3].best;
+    printf("%-26s %7zu %7zu %9.3f %9.3f %9.3f %9.3f %7.2f %7.2f %7.2f\n", name,
+           files->constraints.length, cleaned.length, 1e6 * reading, 1e6 * cleaning, 1e6 * o2,
+           1e6 * o3, cleaning / reading, cleaning / o2, cleaning / o3);
+}
+
+/* A messy spelling of a file that was made here: `v` behind `d`, more white space, comments, constants
+   that aren't reduced and have leading zeros. */
+
+/* 2^width fits on top of a value of fewer than 64 bits. */
+static void print_messy_constant(struct text *messy, const char *token)
+{
+    char *type;
+    uint64_t value = strtoull(token, &type, 10);
+    unsigned width = (unsigned)strtoul(type + strlen(":i"), NULL, 10);
+    if (width < 64 && draw(2))
+        value += (uint64_t)1 << width;
+    print(messy, "%0*" PRIu64 ":i%u", draw(2) ? 6 : 1, value, width);
+}
+
+static void print_messy_token(struct text *messy, const char *token, size_t length)
+{
+    if ('0' <= *token && *token <= '9')
+        print_messy_constant(messy, token);
+    else
+        print(messy, "%.*s", (int)length, token);
+}
+
+static void print_messy_line(struct text *messy, const char *line)
+{
+    static const char *const gaps[] = {" ", "  ", "\t", " \t  "};
+    static const char *const ends[] = {"\n", "\n", " \n", "\t\n", "\n\n", "\n# as agreed\n"};
+    for (;;) {
+        size_t length = strcspn(line, " \n");
+        print_messy_token(messy, line, length);
+        line += length;
+        if (*line++ != ' ')
+            break;
+        print(messy, "%s", gaps[draw(4)]);
+    }
+    print(messy, "%s", ends[draw(6)]);
+}
+
+static void make_messy(struct text *messy, const struct text *file)
+{
+    messy->length = 0;
+    bool has_version = false;
+    for (const char *line = file->bytes; *line; line = strchr(line, '\n') + 1) {
+        if (*line == 'v')
+            continue;
+        if (*line != 'd' && !has_version) {
+            print(messy, "# the map\nv\t01.00 \n");
+            has_version = true;
+        }
+        print_messy_line(messy, line);
+    }
+}
+
+static void report_messy_cleaning(const struct files *files)
+{
+    static struct files messy;
+    static struct text wanted;
+    make_messy(&messy.constraints, &files->constraints);
+    wanted = cleaned;
+    report_cleaning("  in a messy spelling", &messy);
+    if (cleaned.length != wanted.length || memcmp(cleaned.bytes, wanted.bytes, wanted.length) != 0)
+        fail("the messy spelling has another clean text");
+}
+
+static void report_cleanings(const struct input *input)
+{
+    static struct files files;
+    make_files(&files, input);
+    report_cleaning(input->name, &files);
+    if (input->variable_count == GROUP && input->line_count == LINES)
+        report_messy_cleaning(&files);
+}
+
 int main(void)
 {
     static const struct input inputs[] = {
@@ -481,4 +634,8 @@ int main(void)
     const struct input flips[] = {inputs[4], inputs[5]};
     for (size_t i = 0; i < sizeof flips / sizeof *flips; i++)
         report_flips(&flips[i]);
+    printf("%-26s %7s %7s %9s %9s %9s %9s %7s %7s %7s\n", "cleaning", "file B", "clean B", "read us",
+           "clean us", "-O2 us", "-O3 us", "to read", "to -O2", "to -O3");
+    for (size_t i = 0; i < sizeof inputs / sizeof *inputs; i++)
+        report_cleanings(&inputs[i]);
 }

@@ -1,4 +1,4 @@
-/* A plain checker of SPEAR constraint and answer files: the yardstick for speed and replies. */
+/* A plain checker and cleaner of SPEAR files: the yardstick for speed and replies. */
 
 #include "plain.h"
 
@@ -65,6 +65,7 @@ struct operand {
 /* A `p` line has the output 1:i1, with which it means the same as a `c` line. */
 struct line {
     enum operator operator;
+    uint8_t kind; /* `c` or `p` */
     struct operand output;
     struct operand operands[OPERANDS];
 };
@@ -92,6 +93,7 @@ struct problem {
     bool has_version;
     bool has_expectation;
     bool has_solution;
+    uint8_t expectation; /* its digit */
     uint16_t slots[SLOTS]; /* 0 is free, else a variable's number plus 1 */
     /* These aren't cleared for a new problem: entries behind the counts aren't looked at. */
     struct variable variables[VARIABLES];
@@ -438,9 +440,11 @@ static enum refusal read_expectation(struct problem *problem, struct cursor *lin
 {
     if (!find_token(line))
         return TOKEN_MISSING_OR_SURPLUS;
+    const uint8_t *token = line->at;
     if (!(take(line, '0') || take(line, '1')) || !token_ends(line))
         return WRONG_EXPECTATION;
     problem->has_expectation = true;
+    problem->expectation = *token;
     return finish(line);
 }
 
@@ -494,6 +498,7 @@ static enum refusal read_operator(struct cursor *line, enum operator *operator)
 static enum refusal read_application(struct problem *problem, struct cursor *line, uint8_t kind)
 {
     struct line *read = &problem->lines[problem->line_count++];
+    read->kind = kind;
     read->output = (struct operand){.value = 1, .variable = CONSTANT, .width = 1};
     enum refusal refusal = kind == 'c' ? read_operand(problem, line, &read->output) : ACCEPTED;
     if (!refusal)
@@ -736,4 +741,114 @@ uint32_t plain_change(const uint8_t *constraints, size_t constraints_len, uint64
         if (names(&problem.lines[i], (int)variable))
             verdicts[i] = verdict_byte(line_verdict(&problem, &problem.lines[i]));
     return overall(verdicts, problem.line_count);
+}
+
+/* The clean spelling. Each of these puts something at a place, and gives the place behind it. */
+
+static uint8_t *put(uint8_t *at, const void *bytes, size_t length)
+{
+    memcpy(at, bytes, length);
+    return at + length;
+}
+
+static uint8_t *put_number(uint8_t *at, uint64_t value)
+{
+    uint8_t digits[NUMBER_DIGITS], *end = digits + NUMBER_DIGITS, *first = end;
+    do {
+        *--first = (uint8_t)('0' + value % 10);
+        value /= 10;
+    } while (value > 0);
+    return put(at, first, (size_t)(end - first));
+}
+
+static uint8_t *put_type(uint8_t *at, unsigned width)
+{
+    *at++ = ':';
+    *at++ = 'i';
+    if (width >= 10)
+        *at++ = (uint8_t)('0' + width / 10);
+    *at++ = (uint8_t)('0' + width % 10);
+    return at;
+}
+
+static uint8_t *put_operator(uint8_t *at, enum operator operator)
+{
+    static const char spellings[][5] = {
+        "&", "|", "^", "~", "=>", "=", "/=", "ule", "uge", "ult", "ugt", "sle", "sge", "slt", "sgt",
+        "ite", "+", "-", "*", "/u", "/s", "%u", "%s", "<<", ">>a", ">>l", "trun", "sext", "zext",
+        "conc", "extr",
+    };
+    for (const char *next = spellings[operator]; *next; next++)
+        *at++ = (uint8_t)*next;
+    return at;
+}
+
+static uint8_t *put_variable(uint8_t *at, const struct variable *variable)
+{
+    return put(at, variable->name.bytes, variable->name.length);
+}
+
+/* With a space before it. */
+static uint8_t *put_operand(uint8_t *at, const struct problem *problem,
+                            const struct operand *operand)
+{
+    *at++ = ' ';
+    if (operand->variable == CONSTANT)
+        return put_type(put_number(at, operand->value), operand->width);
+    return put_variable(at, &problem->variables[operand->variable]);
+}
+
+static uint8_t *put_header(uint8_t *at, const struct problem *problem)
+{
+    at = put(at, "v 1.0", 5);
+    if (problem->has_expectation) {
+        at = put(at, "\ne ", 3);
+        *at++ = problem->expectation;
+    }
+    if (problem->variable_count > 0)
+        at = put(at, "\nd", 2);
+    for (uint32_t i = 0; i < problem->variable_count; i++) {
+        *at++ = ' ';
+        at = put_type(put_variable(at, &problem->variables[i]), problem->variables[i].width);
+    }
+    return at;
+}
+
+static uint8_t *put_line(uint8_t *at, const struct problem *problem, const struct line *line)
+{
+    *at++ = '\n';
+    *at++ = line->kind;
+    if (line->kind == 'c')
+        at = put_operand(at, problem, &line->output);
+    *at++ = ' ';
+    at = put_operator(at, line->operator);
+    for (int i = 0; i < operand_counts[line->operator]; i++)
+        at = put_operand(at, problem, &line->operands[i]);
+    return at;
+}
+
+static size_t put_clean(uint8_t *room, const struct problem *problem)
+{
+    uint8_t *at = put_header(room, problem);
+    for (uint32_t i = 0; i < problem->line_count; i++)
+        at = put_line(at, problem, &problem->lines[i]);
+    return (size_t)(at - room);
+}
+
+ptrdiff_t plain_clean(const uint8_t *constraints, size_t constraints_len, uint8_t *output,
+                      size_t output_len)
+{
+    struct problem problem;
+    uint8_t spare[FILE_BYTES];
+    memset(&problem, 0, offsetof(struct problem, variables));
+    if (read_constraints(&problem, constraints, constraints_len) != ACCEPTED)
+        return -1;
+    /* A clean text is never longer than the file. */
+    bool has_room = output_len >= constraints_len;
+    size_t length = put_clean(has_room ? output : spare, &problem);
+    if (length > output_len)
+        return -1;
+    if (!has_room)
+        memcpy(output, spare, length);
+    return (ptrdiff_t)length;
 }

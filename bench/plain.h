@@ -13,4 +13,9 @@ uint32_t plain_check(const uint8_t *constraints, size_t constraints_len,
 uint32_t plain_change(const uint8_t *constraints, size_t constraints_len, uint64_t *values,
                       uint8_t *verdicts, size_t variable, uint64_t value);
 
+/* Writes the clean spelling of a constraint file into a room, and gives its length; or -1 where the
+   file is refused or the room too short, and then the room is as it was. */
+ptrdiff_t plain_clean(const uint8_t *constraints, size_t constraints_len, uint8_t *output,
+                      size_t output_len);
+
 #endif
