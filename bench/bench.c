@@ -480,24 +480,26 @@ static uint32_t clean_file(const uint8_t *constraints, size_t constraints_len,
     return SPEAR_KIND(word) != SPEAR_KIND_DONE;
 }
 
+static uint32_t plain_clean_file(clean *cleaner, const uint8_t *constraints, size_t constraints_len)
+{
+    ptrdiff_t length = cleaner(constraints, constraints_len, (uint8_t *)cleaned.bytes,
+                               constraints_len);
+    cleaned.length = (size_t)length;
+    return length < 0;
+}
+
 static uint32_t plain_clean_file_o2(const uint8_t *constraints, size_t constraints_len,
                                     const uint8_t *answer, size_t answer_len)
 {
     (void)answer, (void)answer_len;
-    ptrdiff_t length = plain_clean_o2(constraints, constraints_len, (uint8_t *)cleaned.bytes,
-                                      constraints_len);
-    cleaned.length = (size_t)length;
-    return length < 0;
+    return plain_clean_file(plain_clean_o2, constraints, constraints_len);
 }
 
 static uint32_t plain_clean_file_o3(const uint8_t *constraints, size_t constraints_len,
                                     const uint8_t *answer, size_t answer_len)
 {
     (void)answer, (void)answer_len;
-    ptrdiff_t length = plain_clean_o3(constraints, constraints_len, (uint8_t *)cleaned.bytes,
-                                      constraints_len);
-    cleaned.length = (size_t)length;
-    return length < 0;
+    return plain_clean_file(plain_clean_o3, constraints, constraints_len);
 }
 
 /* A reading alone: a change without tables is refused right behind it, 21, or 23 without variables. */

@@ -4,26 +4,13 @@
 #include <string.h>
 
 #include "../../include/spear.h"
-
-/* Room for a file, and for one byte more, so that one that is too long is seen to be. */
-#define ROOM 65537
+#include "load.h"
 
 struct map {
     const char *name;
     char text[ROOM]; /* the file's clean spelling */
     size_t length;
 };
-
-/* The bytes of a file; none where it can't be opened. */
-static size_t load(const char *name, uint8_t *room)
-{
-    FILE *file = fopen(name, "rb");
-    if (file == NULL)
-        return 0;
-    size_t length = fread(room, 1, ROOM, file);
-    fclose(file);
-    return length;
-}
 
 /* Whether the file is accepted. If not, says why. */
 static bool clean(const char *name, struct map *map)
