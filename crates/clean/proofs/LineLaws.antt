@@ -148,15 +148,15 @@ module _ (e : Edition) (xs : List Variable) (heads bodies : List ℕ) where
       unfolding frontText lineText lineIn operandIn
       front-text = rw (is-letter (bodyAt bodies k 0), spaced-append) refl
 
-      pub front-length : length front ≡ 2 + length (slotText 0) + length operatorText
-      front-length = ap length front-text ∙ omega (arith, length-append (slotText 0) operatorText)
+      pub line-front-length : length front ≡ 2 + length (slotText 0) + length operatorText
+      line-front-length = ap length front-text ∙ omega (arith, length-append (slotText 0) operatorText)
 
       pub put-front : {room : List ℕ} {at : ℕ} → at + length front ≤ length room
           → {end₁ end₂ end₃ end₄ : ℕ} {room₁ room₂ room₃ room₄ : List ℕ}
           → Put (ascii "\n") room at end₁ room₁ → Put (letter ∷ []) room₁ end₁ end₂ room₂ → Put (slotText 0) room₂ end₂ end₃ room₃ → Put operatorText room₃ end₃ end₄ room₄
           → Put front room at end₄ room₄
       put-front h p q r s =
-          let n = front-length in
+          let n = line-front-length in
           rw front-text (put-then (omega (arith, length-append (slotText 0) operatorText)) (put-then (omega arith) (put-then (omega arith) p q) r) s)
 
     operands-text : operandsText ≡ slotText 1 ++ slotText 2 ++ slotText 3

@@ -2,7 +2,7 @@ use native.Mathlib.Omega.{arith}
 use borrow.Author.Needs.{needs}
 use Rattle.edition.specs.Edition.{edition10}
 use Rattle.store.specs.Tables.{variablesIn}
-use Rattle.clean.proofs.LineLaws.{front-length, put-front}
+use Rattle.clean.proofs.LineLaws.{line-front-length, put-front}
 use Rattle.clean.proofs.lines.put_front.Statement.{statement}
 use Rattle.clean.proofs.lines.put_front.Tie as tie
 
@@ -18,12 +18,12 @@ letter-of-requires c κs = search needs
 put-byte-requires-2 : tie.Need-put-byte-requires-2
 put-byte-requires-2 c κs =
     let s = c .before .before .before .before .before .before .before .before .before in
-    omega (arith, s .pre .5, front-length edition10 (variablesIn (s .args .file .now) (s .args .variables .now) (s .args .n)) (s .args .heads .now) (s .args .bodies .now) (s .args .k) (rw (c .before .before .head-of .ensures) at (c .before .letter-of .ensures)))
+    omega (arith, s .pre .5, line-front-length edition10 (variablesIn (s .args .file .now) (s .args .variables .now) (s .args .n)) (s .args .heads .now) (s .args .bodies .now) (s .args .k) (rw (c .before .before .head-of .ensures) at (c .before .letter-of .ensures)))
 
 put-slot-requires : tie.Need-put-slot-requires
 put-slot-requires c κs =
     let s = c .before .before .before .before .before .before .before .before .before .before .before .before .before in
-    (s .pre .0, s .pre .1, s .pre .2, s .pre .3, omega arith, s .pre .4, omega (arith, s .pre .5, front-length edition10 (variablesIn (s .args .file .now) (s .args .variables .now) (s .args .n)) (s .args .heads .now) (s .args .bodies .now) (s .args .k) (rw (c .before .before .before .before .before .before .head-of .ensures) at (c .before .before .before .before .before .letter-of .ensures))))
+    (s .pre .0, s .pre .1, s .pre .2, s .pre .3, omega arith, s .pre .4, omega (arith, s .pre .5, line-front-length edition10 (variablesIn (s .args .file .now) (s .args .variables .now) (s .args .n)) (s .args .heads .now) (s .args .bodies .now) (s .args .k) (rw (c .before .before .before .before .before .before .head-of .ensures) at (c .before .before .before .before .before .letter-of .ensures))))
 
 operator-of-requires : tie.Need-operator-of-requires
 operator-of-requires c κs = search needs
@@ -31,7 +31,7 @@ operator-of-requires c κs = search needs
 put-operator-requires : tie.Need-put-operator-requires
 put-operator-requires c κs =
     let s = c .before .before .before .before .before .before .before .before .before .before .before .before .before .before .before .before .before .before in
-    rw (c .before .operator-of .ensures) (omega (arith, s .pre .5, front-length edition10 (variablesIn (s .args .file .now) (s .args .variables .now) (s .args .n)) (s .args .heads .now) (s .args .bodies .now) (s .args .k) (rw (c .before .before .before .before .before .before .before .before .before .before .before .head-of .ensures) at (c .before .before .before .before .before .before .before .before .before .before .letter-of .ensures))))
+    rw (c .before .operator-of .ensures) (omega (arith, s .pre .5, line-front-length edition10 (variablesIn (s .args .file .now) (s .args .variables .now) (s .args .n)) (s .args .heads .now) (s .args .bodies .now) (s .args .k) (rw (c .before .before .before .before .before .before .before .before .before .before .before .head-of .ensures) at (c .before .before .before .before .before .before .before .before .before .before .letter-of .ensures))))
 
 same-length : tie.Need-same-length
 same-length c = search needs
