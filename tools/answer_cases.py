@@ -19,9 +19,12 @@ from random import Random
 
 sys.dont_write_bytecode = True  # no __pycache__ in the repository
 import answers
+import constraint_cases
+import constraints
 import operators
 from answers import Refusal
-from constraint_cases import marked_tokens
+from constraint_cases import MIXED, SHORT, cr_everywhere, crs, has_lines, has_same_lines, marked_tokens, mixed
+from constraint_cases import moved, no_line_end, with_crs
 from constraints import RESERVED, Line, is_predicate, unmarked
 from operators import OPERATORS, Word
 
@@ -240,8 +243,8 @@ FAULTY = [
     (20, "s SATISFIABLE\nv a=1 t=0 w=3 \t\n\n¦"),
     (20, "s SATISFIABLE\nv a=1 t=0 h=2\nc w=3\n¦"),
     (20, "s SATISFIABLE\nv a=1\nc¦"),
-    (2, "s SATISFIABLE¦\r\n"),
-    (2, f"s SATISFIABLE\nv {SET}¦\r\n"),
+    (20, "s SATISFIABLE\r\n¦"),
+    (2, f"s SATISFIABLE\nv {SET}¦\r\r\n"),
     (2, f"s SATISFIABLE\nv {SET}\n¦\r"),
     (2, "x ¦\x00\n"),
     (2, "# ¦\x7f\n"),
@@ -292,7 +295,7 @@ def forbidden_bytes():
     lines = ("c {}", "c{}", "{}", " {}\t", "x{}", "s {}", "s SATISFIABLE{}", "v {}", "v a=1{}", "v a{}=1")
     for byte in (*range(9), *range(11, 32), 127, 128, 160, 200, 254, 255):
         line = random.choice(lines).format("¦" + chr(byte))
-        yield refused_answer(2, random.choice(starts) + line + random.choice(("", "\n")))
+        yield refused_answer(2, no_line_end(random.choice(starts) + line + random.choice(("", "\n"))))
 
 
 # Several faults. Of two tokens and of two lines the first decides; the order is constraint file, answer, table.
@@ -315,7 +318,7 @@ def two_lines():
 
 CONSTRAINT_FAULTS = [
     (2, "v 1.0\n# ¦\xe9\n"),
-    (2, "v 1.0¦\r\nd a:i8\r\n"),
+    (2, "v 1.0¦\r\r\nd a:i8\r\n"),
     (2, "¦\x00"),
     (3, "¦s SATISFIABLE\n"),
     (3, "v 1.0\n¦ d a:i8\n"),
@@ -349,9 +352,9 @@ CONSTRAINT_FAULTS = [
 ]
 
 
-def faulty_constraints():
+def faulty_constraints(faults=CONSTRAINT_FAULTS):
     """Both calls, beside anything else that is wrong."""
-    for number, text in CONSTRAINT_FAULTS:
+    for number, text in faults:
         data, position = unmarked(text)
         found = number, "constraint", position
         other = random.choice((b"", b"s SATISFIABLE\n", b"s SATISFIABLE\nv a=1\n", b"\x00", b"s UNKNOWN"))
@@ -757,6 +760,155 @@ def operator_writes():
         yield Write(constraint, tuple(values), len(text) + 1)
 
 
+# CRs, in one file or in both.
+
+READ_WITH_CRS = [
+    f"s SATISFIABLE\nv {SET}\r\n",
+    f"c\r\n\r\n\ns\tSATISFIABLE\t\r\n \t\r\nv {SET}",
+    "s SATISFIABLE\r\nv\r\nv a=1\nv \r\nc \t\r\nv t=00\t\r\nv h=2 w=00000000000000000003\r\nv",
+    f"c {PRINTABLE}\r\ns SATISFIABLE\r\nv {SET}\r\n",
+]
+FAULTY_WITH_CRS = [
+    (2, "¦\r\r\ns SATISFIABLE\n"),
+    (2, "¦\r \ns SATISFIABLE\n"),
+    (2, "¦\r"),
+    (2, "\r\n¦\r\rs SATISFIABLE\n"),
+    (2, f"s SATISFIABLE¦\rv {SET}\r"),
+    (2, "s¦\rSATISFIABLE\r\n"),
+    (2, "s¦\r\r\n"),
+    (2, "s ¦\r"),
+    (2, "s SATISFIABLE¦\r \r\n"),
+    (2, "s SATISFIABLE ¦\r\r\n"),
+    (2, "s SATISFIABLE ¦\rx\r\n"),
+    (2, f"s SATISFIABLE\r\n¦\rv {SET}\r\n"),
+    (2, "s SATISFIABLE\r\nv¦\r\r\n"),
+    (2, "s SATISFIABLE\r\nv¦\ra=1\r\n"),
+    (2, "s SATISFIABLE\r\nv ¦\ra=1\r\n"),
+    (2, "s SATISFIABLE\r\nv a¦\r=1\r\n"),
+    (2, "s SATISFIABLE\r\nv a=¦\r1\r\n"),
+    (2, "s SATISFIABLE\r\nv a=1¦\r2\r\n"),
+    (2, "s SATISFIABLE\r\nv a=1¦\rt=0\r\n"),
+    (2, "s SATISFIABLE\r\nv a=1\t¦\r\tt=0\r\n"),
+    (2, f"s SATISFIABLE\r\nv {SET}\t¦\r\t\n"),
+    (2, f"s SATISFIABLE\r\nv {SET}¦\r"),
+    (2, f"s SATISFIABLE\r\nv {SET}\r\n¦\r"),
+    (2, f"s SATISFIABLE\r\nv {SET}\r\n\t¦\r\r\n"),
+    (2, "c¦\r\r\r\n"),
+    (2, "c¦\rs SATISFIABLE\r\n"),
+    (2, "c x¦\rs SATISFIABLE\r\n"),
+    (2, "c x ¦\r"),
+    (2, "x¦\r#\r\n"),
+    (2, "v a=1 ¦\r=\r\ns SATISFIABLE\r\n"),
+    (2, "s SATISFIABLE\r\ns UNKNOWN¦\r\r\n"),
+    (2, "s SATISFIABLE\r\nv x=1 a=256 ¦\r\x00\r\n"),
+    (2, "s SATISFIABLE\r\nv x=1 a=256 ¦\x00\r\r\n"),
+    (3, "¦x\r\n\r"),
+    (3, "\r\n¦ c\r\n"),
+    (3, "s SATISFIABLE\r\n¦c#\r\n"),
+    (4, "\r\n \r\n\r\n¦"),
+    (4, "\r\n¦v\r\n"),
+    (4, "s SATISFIABLE\r\n¦s\r\n"),
+    (7, "s¦\r\n\r"),
+    (7, f"\r\ns \t¦\r\nv {SET}\r\n"),
+    (7, "s SATISFIABLE ¦x\r\n"),
+    (8, "s SATISFIABLE\r\nv ¦a=\r\n"),
+    (8, "s SATISFIABLE\r\nv ¦a\r\n=1\r\n"),
+    (10, "s SATISFIABLE\r\nv ¦w=18446744073709551616\r\n"),
+    (11, f"s SATISFIABLE\r\nv ¦{NAME_33}=1\r\n"),
+    (13, "s SATISFIABLE\r\nv t=1\r\nv ¦x=1\r\n"),
+    (16, "s ¦SATISFIABL\r\nE\r\n"),
+    (17, "\r\ns ¦UNSATISFIABLE\r\n"),
+    (18, "s SATISFIABLE\r\nv ¦a=256\r\n"),
+    (19, "s SATISFIABLE\r\nv a=1\r\nv ¦a=1\r\n"),
+    (20, "s SATISFIABLE\r\nv a=1\r\nc¦"),
+    (20, "s SATISFIABLE\r\n\r\n¦"),
+]
+SWEPT = "c\nc x\n\ns SATISFIABLE \n \t\nv a=1\t t=0\nv h=2 w=3"
+TURNS = (("constraint",), ("answer",), ("constraint", "answer"))  # the files that get CRs
+
+
+def respelled(case, put, turn):
+    """The case with CRs put into the files whose turn it is."""
+    files = [name for name in TURNS[turn % len(TURNS)] if hasattr(case, name)] or ["constraint"]
+    return case._replace(**{name: put(getattr(case, name)) for name in files})
+
+
+def moved_answer(found, case, other):
+    """An answer to the case, with its position as it is in the other's files."""
+    if not isinstance(found, Refusal) or found.subject not in ("constraint", "answer"):
+        return found
+    files = getattr(case, found.subject), getattr(other, found.subject)
+    return found._replace(position=moved(found.position, *files))
+
+
+def are_comparable(case, other):
+    """Whether the other's files are spellings of the same lines."""
+    names = [name for name in ("constraint", "answer") if hasattr(case, name)]
+    return all(has_same_lines(getattr(case, name), getattr(other, name)) for name in names)
+
+
+def alike(ask, case, other):
+    """The other, the case with CRs before LFs, which must be answered alike. A refusal moves with the bytes."""
+    if are_comparable(case, other):
+        wanted = moved_answer(ask(case), case, other)
+        assert ask(other) == wanted, (other, wanted, ask(other))
+    return other
+
+
+def is_short(case):
+    return all(len(part) <= SHORT for part in case if isinstance(part, bytes))
+
+
+def is_mixable(case):
+    return all(has_lines(part) for part in case if isinstance(part, bytes))
+
+
+def repeated(ask, cases):
+    """Of the short ones every third with CRs, and some with both line ends."""
+    short = [case for case in cases if is_short(case)]
+    for turn, case in enumerate(short[::3]):
+        yield alike(ask, case, respelled(case, with_crs, turn))
+    for turn, case in enumerate(crs.sample([case for case in short if is_mixable(case)], MIXED)):
+        yield alike(ask, case, respelled(case, mixed, turn))
+
+
+def answers_with_crs():
+    for text in READ_WITH_CRS:
+        yield accepted_answer([1, 0, 2, 3], HEAD, text, random.choice((0, 1)))
+        yield expected((21, "values", 0), Read(HEAD.encode(), text.encode(), 3))
+    yield expected((3, "answer", 20), Read(HEAD.encode(), b"s SATISFIABLE\nv w=3\nx\r\n", 3))
+    for values, text in answers.READ_WITH_CRS:
+        yield accepted_answer(values, answers.HEAD.decode(), text)
+    for number, text in FAULTY_WITH_CRS:
+        yield refused_answer(number, text)
+    for number, text in answers.REFUSED_WITH_CRS:
+        yield refused_answer(number, text, answers.HEAD.decode())
+    for text in cr_everywhere(SWEPT):
+        yield refused_answer(2, text) if "¦" in text else accepted_answer([1, 0, 2, 3], HEAD, text)
+
+
+def constraints_with_crs():
+    """Both calls, with a constraint file that is read and with faulty ones."""
+    data, text = b"v 1.0\r\nd a:i8\r\n", b"s SATISFIABLE\nv a=1\n"
+    yield expected([1], Read(data, text, 1))
+    yield expected((4, "answer", 0), Read(data, b"", 0))
+    yield expected(text, Write(data, (1,), len(text)))
+    yield expected((21, "values", 0), Write(data, (), 0))
+    yield from faulty_constraints(constraints.REFUSED_WITH_CRS + constraint_cases.FAULTY_WITH_CRS[::4])
+
+
+def sizes_with_crs():
+    """As many bytes as there may be, up to the last LF or to a CR, and one more."""
+    constraint, text = with_crs(HEAD.encode()) + b"#", f"s SATISFIABLE\r\nv {SET}\r\nc".encode()
+    full = constraint.ljust(65534) + b"\r\n"
+    yield expected([1, 0, 2, 3], Read(full, text.ljust(65534) + b"\r\n", 4))
+    yield expected((1, "answer", 65536), Read(constraint, text.ljust(65535) + b"\r\n", 4))
+    yield expected((2, "answer", 65535), Read(constraint, text.ljust(65535) + b"\r", 4))
+
+
+LINE_ENDS = [answers_with_crs, constraints_with_crs, sizes_with_crs]
+
+
 # The corpus.
 
 GROUPS = [answers_read, wrong_tokens, prefix_names, faulty_lines, unknown_kinds, forbidden_bytes, two_tokens]
@@ -775,7 +927,9 @@ REFUSALS = {
 
 
 def cases():
-    return list(dict.fromkeys(case for group in GROUPS for case in group()))
+    found = list(dict.fromkeys(case for group in GROUPS for case in group()))
+    with_line_ends = [case for group in LINE_ENDS for case in group()]
+    return list(dict.fromkeys([*found, *with_line_ends, *repeated(answer, found)]))
 
 
 def refusal_counts(every):

@@ -1,5 +1,5 @@
 #!/usr/bin/env python3
-"""The reader and the writer of answer files, by documents 01 and 003 and apart from the Rattle code.
+"""The reader and the writer of answer files, by documents 01, 02 and 003 and apart from the Rattle code.
 
 read(constraint, answer, table_length) gives the values that the reader puts into a lent table, and
 write(constraint, values, room) the bytes that the writer puts into a lent room; or both give the Refusal.
@@ -13,7 +13,8 @@ from dataclasses import dataclass, field
 sys.dont_write_bytecode = True  # no __pycache__ in the repository
 import constraints
 import operators
-from constraints import FILE_BYTES, FORBIDDEN, NAME, Refused, Token, Tokens, Variable, require, unmarked
+from constraints import FILE_BYTES, NAME, Refused, Token, Tokens, Variable
+from constraints import check_bytes, cut_lines, require, unmarked
 from operators import Word
 
 Refusal = namedtuple("Refusal", "number subject position")
@@ -75,9 +76,7 @@ def is_misplaced(answer, kind):
 
 
 def read_line(file, answer, start, text):
-    forbidden = re.search(FORBIDDEN, text)
-    if forbidden:
-        raise Refused(2, start + forbidden.start())
+    check_bytes(start, text)
     if not text.strip(b" \t"):
         return
     kind = text[:1]
@@ -89,10 +88,8 @@ def read_line(file, answer, start, text):
 def read_lines(file, data):
     require(len(data) <= FILE_BYTES, 1, FILE_BYTES)
     answer = Answer()
-    start = 0
-    for text in data.split(b"\n"):
+    for start, text in cut_lines(data):
         read_line(file, answer, start, text)
-        start += len(text) + 1
     require(answer.solution, 4, len(data))
     require(len(answer.values) == len(file.variables), 20, len(data))
     return [answer.values[name] for name in file.variables]
@@ -206,7 +203,7 @@ READ = [
 
 REFUSED = [
     (17, "c Speedy Gonzo Theorem Prover, v 0.0001\nc\nc\nc TIMEOUT\ns ¦UNKNOWN\n"),
-    (2, "c¦\r\ns SATISFIABLE\n"),
+    (2, "c¦\r\r\ns SATISFIABLE\n"),
     (3, "s SATISFIABLE\n¦# comment\n"),
     (4, "¦"),
     (4, "c\n¦v a=4\ns SATISFIABLE\n"),
@@ -223,6 +220,40 @@ REFUSED = [
     (20, "s SATISFIABLE\nv a=1 c=3\n¦"),
 ]
 
+# The same with CRs: one directly before an LF belongs to the line's end, and any other is refused.
+
+READ_WITH_CRS = [
+    ([1, 2, 3], "c\r\ns SATISFIABLE\r\nv a=1 b=2 c=3\r\n"),
+    ([1, 2, 3], "c from an office\r\n\r\nc\ns SATISFIABLE \r\n \t\r\nv a=1\n\nv\r\nv b=2\t\r\nv c=3"),
+]
+
+REFUSED_WITH_CRS = [
+    (2, "s SATISFIABLE¦\r\r\n"),
+    (2, "s SATISFIABLE\r\nv a=1¦\r\r\n"),
+    (2, "s SATISFIABLE\r\nv a=1 b=2 c=3¦\r"),
+    (2, "¦\r"),
+    (2, "\r\n¦\r"),
+    (2, "s ¦\rSATISFIABLE\r\n"),
+    (2, "s SATIS¦\rFIABLE\r\n"),
+    (2, "s¦\r SATISFIABLE\r\n"),
+    (2, "s SATISFIABLE\r\nv¦\r a=1\r\n"),
+    (2, "s SATISFIABLE\r\nv a=¦\r1\r\n"),
+    (2, "s SATISFIABLE\r\nv a=1 ¦\rb=2\r\n"),
+    (2, "s SATISFIABLE\r\nv a=1¦\r \n"),
+    (2, "¦\rs SATISFIABLE\r\n"),
+    (2, "c ¦\r no\r\ns SATISFIABLE\r\n"),
+    (2, "c\r\n¦\r\r\n"),
+    (3, "s SATISFIABLE\r\n¦#\r\n"),
+    (4, "\r\nc\r\n¦"),
+    (4, "c\r\n¦v\r\ns SATISFIABLE\r\n"),
+    (7, "s¦\r\n"),
+    (7, "c\r\ns \t¦\r\nv a=1\r\n"),
+    (7, "s SATISFIABLE ¦a=1\r\n"),
+    (17, "\r\ns ¦UNKNOWN\r\n"),
+    (18, "s SATISFIABLE\r\nv a=1\r\nv ¦a=4\r\n"),
+    (20, "s SATISFIABLE\r\nv a=1 c=3\r\n¦"),
+]
+
 
 def self_test():
     whole = read_constraint(WHOLE)
@@ -237,9 +268,9 @@ def self_test():
     assert write(WHOLE, [17056, 17060, 1117799076, 2**64 - 1], 47) == SET % 1117799076
     assert write(WHOLE, [17056, 17060, 1117799076], 46) == (21, "output", 0)
     assert overall([1, 0, 2, 0, 2]) == "disregarded 3"
-    for values, text in READ:
+    for values, text in READ + READ_WITH_CRS:
         assert read(HEAD, text.encode(), 3) == values, (text, read(HEAD, text.encode(), 3))
-    for number, text in REFUSED:
+    for number, text in REFUSED + REFUSED_WITH_CRS:
         data, position = unmarked(text)
         assert read(HEAD, data, 0) == (number, "answer", position), (text, read(HEAD, data, 0))
 
@@ -248,4 +279,4 @@ if __name__ == "__main__":
     if sys.argv[1:] != ["--self-test"]:
         sys.exit(f"usage: {sys.argv[0]} --self-test")
     self_test()
-    print(f"{len(READ)} answers are read, {len(REFUSED)} refused")
+    print(f"{len(READ + READ_WITH_CRS)} answers are read, {len(REFUSED + REFUSED_WITH_CRS)} refused")

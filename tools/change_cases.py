@@ -29,14 +29,20 @@ from answer_cases import (
     any_answer,
     any_fitting,
     any_value,
+    are_comparable,
     constant,
+    is_mixable,
+    is_short,
+    moved_answer,
     mutated,
     random,
+    respelled,
 )
 from answers import Refusal
 from changes import Changed, Model
-from check_cases import LENT_VERDICT, MOST_VERDICTS, lengths_around, nearly
+from check_cases import LENT_VERDICT, MOST_VERDICTS, Case, lengths_around, nearly
 from checks import Checked
+from constraint_cases import MIXED, crs, mixed, with_crs
 from constraints import unmarked
 from operator_vectors import edges
 from operators import DIVISIONS, OPERATORS, Word
@@ -57,6 +63,7 @@ class Run:
     def __init__(self, constraint, answer, values, verdicts):
         assert max(len(constraint), len(answer)) <= MOST_BYTES
         assert values <= MOST_ENTRIES and verdicts <= MOST_VERDICTS
+        self.start = Case(constraint, answer, values, verdicts)
         self.constraint, self.answer = constraint, answer
         self.file = answers.read_constraint(constraint)
         self.values = [1000003 * (i + 1) for i in range(values)]
@@ -64,7 +71,7 @@ class Run:
         lengths = len(constraint), len(answer), values, verdicts
         self.calls = [answer_cases.header("r", *lengths) + constraint + answer]
         self.checked = checks.check(constraint, answer, values, verdicts)
-        self.found = []
+        self.numbers, self.found = [], []  # what each change is told, and answers
         self.model = None
         if isinstance(self.checked, Checked):
             self.values[: len(self.checked.values)] = self.checked.values
@@ -78,6 +85,7 @@ class Run:
         found = changes.change(self.constraint, values, verdicts, variable, value)
         self.assert_answer(found, self.model and self.model.change(variable, value, *lengths), values, verdicts)
         self.values[: lengths[0]], self.verdicts[: lengths[1]] = values, verdicts
+        self.numbers.append((variable, value, values_lent, verdicts_lent))
         self.calls.append("c {:016x} {:016x} {:08x} {:08x}\n".format(variable, value, *lengths).encode())
         self.found.append(found)
         return found
@@ -475,15 +483,19 @@ def bare_files():
 # Constraint files that are refused, whatever the change is told and lent.
 
 
+def refused_run(number, data, position):
+    run = blind(sized(data, random.choice((*UNSET, b"s SATISFIABLE\n"))), random.randint(1, 6))
+    assert set(run.found) == {Refusal(number, "constraint", position)}, run.found
+    return run
+
+
 def faulty_constraints():
     by_number = {}
     for number, text in constraints.REFUSED + answer_cases.CONSTRAINT_FAULTS:
         by_number.setdefault(number, []).append(unmarked(text))
     for number, texts in sorted(by_number.items()):
         for data, position in random.sample(texts, min(2, len(texts))):
-            run = blind(sized(data, random.choice((*UNSET, b"s SATISFIABLE\n"))), random.randint(1, 6))
-            assert set(run.found) == {Refusal(number, "constraint", position)}, run.found
-            yield run
+            yield refused_run(number, data, position)
 
 
 # Sizes. Only these files are longer than 5,000 bytes.
@@ -565,6 +577,46 @@ def mutated_runs():
         yield blind(sized(mutated(constraint), any_answer(constraint, values)), 5)
 
 
+# CRs, in one file or in both.
+
+MOST_AGAIN = 40  # changes of a run that is repeated
+
+
+def faulty_with_crs():
+    for number, text in constraints.REFUSED_WITH_CRS:
+        yield refused_run(number, *unmarked(text))
+
+
+def sizes_with_crs():
+    """As many bytes as there may be, up to the last LF or to a CR, and one more."""
+    answer = with_crs(answers.SET % 1117799076)
+    full = (with_crs(answers.WHOLE) + b"#").ljust(65534) + b"\r\n"
+    yield wander(Run(full, answer, 3, 1), 12)
+    yield blind(Run(full[:-2] + b" \r\n", answer, 3, 1), 6)
+    yield blind(Run(full[:-2] + b" \r", answer, 3, 1), 6)
+
+
+def again(run, put, turn):
+    """The run with CRs put into the files whose turn it is. Its first changes must be answered alike."""
+    other = Run(*respelled(run.start, put, turn))
+    for numbers in run.numbers[:MOST_AGAIN]:
+        other.change(*numbers)
+    if are_comparable(run, other):
+        wanted = [moved_answer(found, run, other) for found in run.found[:MOST_AGAIN]]
+        assert other.found == wanted, (other.start, wanted, other.found)
+        assert other.checked == moved_answer(run.checked, run, other), (other.start, other.checked)
+    return other
+
+
+def repeated(runs):
+    """Of those with short files every third with CRs, and some with both line ends."""
+    short = [run for run in runs if is_short(run.start)]
+    for turn, run in enumerate(short[::3]):
+        yield again(run, with_crs, turn)
+    for turn, run in enumerate(crs.sample([run for run in short if is_mixable(run.start)], MIXED)):
+        yield again(run, mixed, turn)
+
+
 # The corpus.
 
 GROUPS = [whole_case, named_lines, decided_lines, divisors, edge_widths, bit_counts, lent_tables, short_whole]
@@ -588,7 +640,7 @@ def assert_complete(runs):
     refusals = {(answer.subject, answer.number) for answer in found if isinstance(answer, Refusal)}
     assert refusals == {(subject, number) for subject, numbers in REFUSALS.items() for number in numbers}
     assert {answer.bits for answer in found if isinstance(answer, Changed)} == {*range(65)}
-    assert sum(max(len(run.constraint), len(run.answer)) > 5000 for run in runs) <= 3
+    assert sum(max(len(run.constraint), len(run.answer)) > 5000 for run in runs) <= 6
 
 
 def show(title, counter):
@@ -600,6 +652,8 @@ def show(title, counter):
 def main(folder):
     changes.self_test()
     runs = [run for group in GROUPS for run in group()]
+    runs += [*faulty_with_crs(), *sizes_with_crs(), *repeated(runs)]
+    runs = list({run.stdin(): run for run in runs}.values())  # a file without LFs gets no CRs
     for run in runs:
         if run.model:
             run.assert_fresh()

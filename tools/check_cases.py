@@ -36,9 +36,12 @@ from answer_cases import (
     constant,
     mutated,
     random,
+    repeated,
+    respelled,
     table_after,
 )
 from answers import Refusal
+from constraint_cases import with_crs
 from constraints import Line, is_predicate, unmarked
 from operators import DIVISIONS, OPERATORS, Word
 
@@ -276,9 +279,12 @@ ANY_ANSWERS = (b"", b"\x00", b"x", b"s UNKNOWN", b"s SATISFIABLE", b"s SATISFIAB
 LINED_HEAD = HEAD + "c a + a 0:i8\np ugt w 3:i64\nc a /u a 0:i8\n"
 
 
-def faulty_constraints():
+CONSTRAINT_FAULTS = constraints.REFUSED + answer_cases.CONSTRAINT_FAULTS + constraint_cases.FAULTY
+
+
+def faulty_constraints(faults=CONSTRAINT_FAULTS):
     """A fault in the constraint file, beside any answer."""
-    for number, text in constraints.REFUSED + answer_cases.CONSTRAINT_FAULTS + constraint_cases.FAULTY:
+    for number, text in faults:
         data, position = unmarked(text)
         yield refused(number, "constraint", position, data, random.choice(ANY_ANSWERS))
 
@@ -291,11 +297,15 @@ def first_wrong_tokens():
                 yield number, places[0].format("¦" + token)
 
 
-def faulty_answers():
+def beside_lines(faults):
     """A fault in the answer, beside a line that is violated or disregarded or holds."""
-    for number, text in [*answer_cases.FAULTY, *first_wrong_tokens()]:
+    for number, text in faults:
         data, position = unmarked(text)
         yield refused(number, "answer", position, LINED_HEAD.encode(), data)
+
+
+def faulty_answers():
+    yield from beside_lines([*answer_cases.FAULTY, *first_wrong_tokens()])
     for number, text in answer_cases.NO_VARIABLES:
         data, position = unmarked(text)
         yield refused(number, "answer", position, b"v 1.0\nc 0:i8 ~ 255:i8\n", data)
@@ -427,6 +437,45 @@ def random_checks():
         yield sized(mutated(constraint), random.choice((text, mutated(text))), any_steps())
 
 
+# CRs, in one file or in both.
+
+
+def whole_case_with_crs():
+    for (said, text), turn in product(WHOLE_ANSWERS[:2], range(3)):
+        yield expected(said, respelled(Case(answers.WHOLE, text, 3, 1), with_crs, turn))
+    too_narrow = answers.WHOLE.replace(b"r:i32", b"r:i31")
+    yield expected("refused 15 constraint 34", Case(with_crs(too_narrow), b"", 3, 1))
+
+
+def accepted_with_crs():
+    yield accepted("satisfied", "v 1.0\r\n", "s SATISFIABLE\r\n", 0, 0)
+    for text in answer_cases.READ_WITH_CRS:
+        yield accepted("disregarded 3", LINED_HEAD, text, 4, 3)
+        yield expected("disregarded 3", Case(with_crs(LINED_HEAD.encode()), text.encode(), 4, 3))
+
+
+def faulty_with_crs():
+    """Faults at CRs and near them, and others behind files with CRs that are read."""
+    yield expected("refused 3 answer 0", Case(b"v 1.0\r\n", b"x", 0, 2))
+    yield expected("refused 3 answer 0", Case(b"v 1.0\r\nd a:i8\r\n", b"x", 0, 5))
+    yield expected("refused 21 values 0", Case(LINED_HEAD.encode(), answer_cases.READ_WITH_CRS[0].encode(), 1, 1))
+    yield from faulty_constraints(constraints.REFUSED_WITH_CRS + constraint_cases.FAULTY_WITH_CRS)
+    yield from beside_lines(answer_cases.FAULTY_WITH_CRS)
+
+
+def sizes_with_crs():
+    """As many bytes as there may be, up to the last LF or to a CR, and one more."""
+    late_line = b"v 1.0\r\nd t:i1\r\n#".ljust(65527) + b"\r\np ~ t\r\n"
+    late_set = b"s SATISFIABLE\r\nc".ljust(65527) + b"\r\nv t=1\r\n"
+    yield expected("violated 1", Case(late_line, late_set, 1, 1))
+    short = b"v 1.0\r\nd t:i1\r\np ~ t\r\n"
+    yield expected("refused 1 answer 65536", Case(short, late_set[:-2] + b" \r\n", 1, 1))
+    yield expected("refused 2 constraint 65535", Case(late_line[:-2] + b" \r", b"s SATISFIABLE\r\nv t=1\r\n", 1, 1))
+
+
+LINE_ENDS = [whole_case_with_crs, accepted_with_crs, faulty_with_crs, sizes_with_crs]
+
+
 # The corpus.
 
 GROUPS = [whole_case, table_cases, decided_lines, constraint_operators, predicate_operators, neighbours]
@@ -440,7 +489,9 @@ MOST_STDIN = 1500000
 
 
 def cases():
-    return list(dict.fromkeys(case for group in GROUPS for case in group()))
+    found = list(dict.fromkeys(case for group in GROUPS for case in group()))
+    with_line_ends = [case for group in LINE_ENDS for case in group()]
+    return list(dict.fromkeys([*found, *with_line_ends, *repeated(lambda case: checks.check(*case), found)]))
 
 
 def outcome_counts(every):

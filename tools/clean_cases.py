@@ -19,14 +19,16 @@ import answers
 import cleaning
 import constraint_cases
 import constraints
+from answer_cases import repeated
 from answers import Refusal
 from cleaning import CLEANED, clean, meaning
-from constraint_cases import FAULTY, LONG, NAMES_BY_WIDTH, SOUND, any_line, any_variables, damaged, random
-from constraints import BOOLEAN_PREDICATES, PREDICATES, READ, REFUSED, unmarked
+from constraint_cases import FAULTY, FAULTY_WITH_CRS, LONG, NAMES_BY_WIDTH, SOUND, SOUND_WITH_CRS, any_line
+from constraint_cases import any_variables, damaged, random, with_crs
+from constraints import BOOLEAN_PREDICATES, PREDICATES, READ, READ_WITH_CRS, REFUSED, REFUSED_WITH_CRS, unmarked
 from operators import OPERATORS, Word
 
 MOST_BYTES = MOST_ROOM = 70000
-MOST_CORPUS = 900000
+MOST_CORPUS = 1200000
 MOST = 2**64 - 1
 NAME_32 = LONG[:32]
 
@@ -348,10 +350,10 @@ def full_clean_file():
 
 
 def full_messy_file():
-    """As many variables and lines, in a file that a comment fills up."""
+    """As many variables and lines, with the start of a comment behind them."""
     variables = {name: i % 64 + 1 for i, name in enumerate(any_variables(256))}
     body = [["p", "=", f"{i}:i7", f"{i % 3}:i7"] for i in range(1024)]
-    return (spelling(Map("0", variables, body)) + b"\n#").ljust(65536, b"x")
+    return spelling(Map("0", variables, body)) + b"\n#"
 
 
 def sizes():
@@ -360,7 +362,7 @@ def sizes():
     yield Case(full, 65536)
     yield Case(full, 65535)
     yield Case(full + b"\n", 99)
-    messy_file = full_messy_file()
+    messy_file = full_messy_file().ljust(65536, b"x")
     yield Case(messy_file, len(clean_text(messy_file)))
     yield Case(b"\n" * 65531 + SMALLEST, 5)
     yield Case((SMALLEST + b"\n#").ljust(65536), 4)
@@ -373,11 +375,16 @@ def sizes():
 # Refused files.
 
 
-def refused_files():
-    """Each of the readers' faulty files without room and with enough, and wrong tokens in some room."""
-    for _, text in REFUSED + FAULTY:
+def in_any_room(faults):
+    """Each of the faulty files without room, with some and with enough."""
+    for _, text in faults:
         data, _ = unmarked(text)
         yield from (Case(data, room) for room in (0, 5, len(data)))
+
+
+def refused_files():
+    """The readers' faulty files, and wrong tokens in some room."""
+    yield from in_any_room(REFUSED + FAULTY)
     for data in (*constraint_cases.wrong_tokens(), *constraint_cases.unknown_kinds()):
         yield in_some_room(data)
     yield from map(in_some_room, constraint_cases.forbidden_bytes())
@@ -406,6 +413,28 @@ def any_files():
         yield in_some_room(damaged(spelling(any_map(random.randint(0, 6), random.randint(0, 6)))))
 
 
+# CRs.
+
+
+def line_ends():
+    """Files with CRs have the clean texts of those without, which have LFs alone."""
+    for text, wanted in CLEAN_TEXTS:
+        assert clean_text(with_crs(text.encode())) == wanted.encode()
+        yield in_some_room(with_crs(text.encode()))
+    for text in (*(text for _, _, text in READ_WITH_CRS), *SOUND_WITH_CRS):
+        yield from in_rooms(text.encode())
+    yield from in_any_room(REFUSED_WITH_CRS + FAULTY_WITH_CRS[::3])
+
+
+def sizes_with_crs():
+    """As many bytes as there may be, up to the last LF or to a CR, and one more."""
+    full = with_crs(full_messy_file()).ljust(65534, b"x") + b"\r\n"
+    text = clean_text(full)
+    yield Case(full, len(text))
+    for data in (full[:-2] + b"x\r", full[:-2] + b"x\r\n"):
+        yield Case(data, len(text))
+
+
 # All of them.
 
 
@@ -413,7 +442,9 @@ def cases():
     groups = [small_files(), every_room(), every_operator(), every_width(), every_length_of_number()]
     groups += [every_name(), same_maps(), maps_nearly_the_same(), sizes(), refused_files()]
     groups += [faults_at_the_end(), any_files()]
-    return list(dict.fromkeys(case for group in groups for case in group))
+    found = list(dict.fromkeys(case for group in groups for case in group))
+    again = repeated(lambda case: clean(*case), found)
+    return list(dict.fromkeys([*found, *line_ends(), *sizes_with_crs(), *again]))
 
 
 def check_coverage(files):

@@ -16,7 +16,9 @@ from random import Random
 
 sys.dont_write_bytecode = True  # no __pycache__ in the repository
 import constraints
-from constraints import BOOLEAN_PREDICATES, PREDICATES, READ, REFUSED, Refusal, unmarked
+from cleaning import meaning
+from constraints import BOOLEAN_PREDICATES, FILE_BYTES, PREDICATES, READ, READ_WITH_CRS, REFUSED, REFUSED_WITH_CRS
+from constraints import Refusal, unmarked
 from operators import OPERATORS
 
 HEAD = "v 1.0\nd a:i8 b:i8 ab:i8 t:i1\n"  # what the lines of the tables below may name
@@ -156,6 +158,11 @@ def small_files():
         yield b"\n".join(random.sample(found, 2))
 
 
+def no_line_end(text):
+    """The text with one CR more where a CR would belong to a line's end."""
+    return text.replace("\r\n", "\r\r\n")
+
+
 def unknown_kinds():
     for kind in "abfgoqstuwxyzVEDCP019!\"$?@[`{~":
         yield refused(3, f"v 1.0\n¦{kind} 1.0\n")
@@ -169,7 +176,8 @@ def unknown_kinds():
 def forbidden_bytes():
     lines = ("# {}", "{}", "\t {}", "{} 1.0", "x{}", "c {} + a b", "c a + a b{}", "d x:i8 {}:i8", "p = a a {}")
     for byte in (*range(9), *range(11, 32), *range(127, 256, 8), 128, 159, 160, 254):
-        yield refused(2, HEAD + random.choice(lines).format("¦" + chr(byte)) + random.choice(ENDINGS))
+        text = HEAD + random.choice(lines).format("¦" + chr(byte)) + random.choice(ENDINGS)
+        yield refused(2, no_line_end(text))
 
 
 def two_faults():
@@ -370,10 +378,173 @@ def whole_files():
     yield any_file(256, 1024)
 
 
+# CRs. One directly before an LF belongs to the line's end, which is then at the CR; any other is refused.
+
+crs = Random(2)  # draws of their own, which leave all others as they are
+SHORT = 5000  # the bytes of a file that is repeated with CRs, at most
+MIXED = 40  # how many files are repeated with both line ends
+
+SOUND_WITH_CRS = [
+    "#v\n \t\nv 1.0\r\n",
+    "\r\n\n\r\nv 1.0",
+    "v 1.0\r\n#\r\n# \t\r\n\t\r\n##",
+    f"v 1.0\r\nd {LONG[:32]}:i1\r\np ~ {LONG[:32]}\r\n",
+    "v 1.0\r\nd a:i64\nd b:i8\r\nc a + a 18446744073709551615:i64\r\nc b ~ b\np = b 07:i8\r\n",
+]
+FAULTY_WITH_CRS = [
+    (2, "¦\r\r\n" + HEAD),
+    (2, "¦\r\t\n" + HEAD),
+    (2, "¦\r\rv 1.0\n"),
+    (2, "v 1.0¦\rd a:i8\rp = a a\r"),
+    (2, "v 1.¦\r0\n"),
+    (2, HEAD + "e¦\r1\n"),
+    (2, HEAD + "e 1¦\r\r\n"),
+    (2, HEAD + "e 1 ¦\r"),
+    (2, HEAD + "d¦\r\r\n"),
+    (2, HEAD + "d x¦\r:i8\r\n"),
+    (2, HEAD + "d x:i¦\r8\r\n"),
+    (2, HEAD + "d x:i8¦\r y:i8\n"),
+    (2, HEAD + "d x:i8 ¦\ry:i8\n"),
+    (2, HEAD + "d x:i8\t¦\r\t\n"),
+    (2, HEAD + "c¦\ra + a b\r\n"),
+    (2, HEAD + "c a¦\r+ a b\r\n"),
+    (2, HEAD + "c a ¦\r+ a b\r\n"),
+    (2, HEAD + "c a >>¦\rl a b\r\n"),
+    (2, HEAD + "c a + 1¦\r:i8 b\r\n"),
+    (2, HEAD + "c a + a b¦\rc a + a b\n"),
+    (2, HEAD + "c a + a b¦\r"),
+    (2, HEAD + "c a + a b\r\n¦\r"),
+    (2, HEAD + "p¦\r = a b\n"),
+    (2, HEAD + "p = a b¦\r\r\r\r\n"),
+    (2, HEAD + "p = a b ¦\r \r\n"),
+    (2, HEAD + "#¦\r"),
+    (2, HEAD + "#¦\r\r\n"),
+    (2, HEAD + "# x¦\r\t\r\n"),
+    (2, HEAD + "# x ¦\rc a + a b\n"),
+    (2, HEAD + " ¦\r \n"),
+    (2, HEAD + "\t¦\r\r\n"),
+    (2, HEAD + "\r\n\r\n¦\r"),
+    (2, HEAD + "q¦\rx\n"),
+    (2, HEAD + "v¦\r 1.0\r\n"),
+    (2, HEAD + "d a:i8 x:i65 ¦\rx\r\n"),
+    (2, HEAD + "c x != ¦\r\x00\r\n"),
+    (2, HEAD + "c x != ¦\x00\r\r\n"),
+    (2, HEAD + "# x\r\n#\r\n¦\r \n#"),
+    (3, "\r\n¦q\r\n\r"),
+    (3, "\r\n¦v:\r\n"),
+    (3, "v 1.0\r\n¦\tv\r\n"),
+    (4, "p = 0:i8 0:i8\r\n¦d\r\n\r"),
+    (4, "\r\n\r\n¦"),
+    (4, "#\r\n \r\n\t¦"),
+    (5, "v ¦1.00000\r\n"),
+    (6, "v 1.0\r\ne ¦01\r\n"),
+    (7, "\r\nv \t¦\r\nv 1.0\r\n"),
+    (7, "v 1.0\r\ne¦\r\n"),
+    (7, "v 1.0\r\nd\t¦\r\n"),
+    (7, "v 1.0\r\nc¦\r\n\r\r\n"),
+    (7, "v 1.0\r\nc 1:i8¦\r\n"),
+    (7, "v 1.0\r\nc 1:i8 +¦\r\n"),
+    (7, "v 1.0\r\nc 1:i8 + 1:i8 ¦\r\n1:i8\r\n"),
+    (7, "v 1.0\r\np \t ¦\r\n"),
+    (7, "v 1.0\r\np ~¦\r\n"),
+    (7, "v 1.0\r\np ~ 1:i1 ¦1:i1\r\n"),
+    (8, "v 1.0\r\nd ¦x:i08\r\n"),
+    (8, "v 1.0\r\nd ¦x\r\n"),
+    (9, "v 1.0\r\nd ¦x:i65\r\n"),
+    (10, "v 1.0\r\np = 1:i64 ¦18446744073709551616:i64\r\n"),
+    (11, f"v 1.0\r\nd ¦{LONG}:i8\r\n"),
+    (11, f"v 1.0\nd {LONG[:32]}:i8\np = 0:i8 ¦{LONG}\n\nv 1.0\r\n"),
+    (12, "v 1.0\r\nd x:i8\r\nd y:i8 ¦x:i8\r\n"),
+    (13, "v 1.0\r\nd x:i8\r\np = x ¦y\r\n"),
+    (14, "v 1.0\r\np ¦ul\r\n"),
+    (15, "v 1.0\r\np ¦~ 1:i8\r\n"),
+]
+SWEPT = "#\tx\n\nv 1.0\ne 1\nd a:i8 t:i1 \nc a >>l a 1:i8\n \t\np ~ t"
+
+
+def with_crs(data):
+    """The file with a CR before each LF."""
+    return data.replace(b"\n", b"\r\n")
+
+
+def mixed(data):
+    """The file with a CR before some LFs."""
+    return re.sub(b"\n", lambda _: crs.choice((b"\n", b"\r\n")), data)
+
+
+def has_lines(data):
+    """Whether there are line ends to mix."""
+    return data.count(b"\n") > 1
+
+
+def has_same_lines(data, other):
+    """Whether CRs before the data's LFs give the same lines: no second CR before an LF, and no file too long."""
+    return b"\r\n" not in data and len(other) <= FILE_BYTES
+
+
+def moved(position, data, other):
+    """Where a position of the data is in the other, which has CRs before LFs. A line's end is at its CR."""
+    before = data[:position].count(b"\n")
+    return position + sum(line.endswith(b"\r") for line in other.split(b"\n")[:before])
+
+
+def alike(data, other):
+    """The other, the data with CRs before LFs, which must be read as they are. A refusal moves with the bytes."""
+    wanted, found = constraints.read(data), constraints.read(other)
+    if not has_same_lines(data, other):
+        return other
+    if isinstance(wanted, Refusal):
+        assert found == (wanted.number, moved(wanted.position, data, other)), (other, wanted, found)
+    else:
+        assert meaning(found) == meaning(wanted), (other, wanted, found)
+    return other
+
+
+def cr_everywhere(text):
+    """A sound text with one CR more at each place, marked at the first CR that is refused, if there is one."""
+    for spelt in (text, with_crs(text.encode()).decode()):
+        for place in range(len(spelt) + 1):
+            yield re.sub(r"\r(?!\n)", "¦\r", spelt[:place] + "\r" + spelt[place:], count=1)
+
+
+def swept_files():
+    for text in cr_everywhere(SWEPT):
+        yield refused(2, text) if "¦" in text else alike(SWEPT.encode(), text.encode())
+
+
+def sizes_with_crs():
+    """As many bytes as there may be, up to the last LF or to a CR, and one more."""
+    comment = "v 1.0\r\n#"
+    yield sound(comment.ljust(65534).encode() + b"\r\n")
+    yield refused(2, comment.ljust(65535) + "¦\r")
+    yield refused(1, comment.ljust(65535) + "\r¦\n")
+    yield sound(b"\r\n" * 32764 + b"v 1.0 \r\n")
+    lines = "v 1.0\r\n" + "p ~ 0:i1\r\n" * 1024
+    yield sound(lines.encode())
+    yield refused(11, lines + "¦p ~ 0:i1\r\n")
+
+
+def repeated(files):
+    """Of the short ones every third with CRs, and some with both line ends."""
+    short = [file for file in files if len(file) <= SHORT]
+    yield from [alike(file, with_crs(file)) for file in short][::3]
+    for file in crs.sample([file for file in short if has_lines(file)], MIXED):
+        yield alike(file, mixed(file))
+
+
+def line_ends(files):
+    yield from (sound(text.encode()) for text in [*(text for _, _, text in READ_WITH_CRS), *SOUND_WITH_CRS])
+    yield from (refused(*case) for case in REFUSED_WITH_CRS + FAULTY_WITH_CRS)
+    yield from swept_files()
+    yield from sizes_with_crs()
+    yield from repeated(files)
+
+
 def files():
     groups = [small_files(), wrong_tokens(), unknown_kinds(), forbidden_bytes(), two_faults()]
     groups += [types(), predicates(), casts(), sizes(), whole_files()]
-    return dict.fromkeys(file for group in groups for file in group)
+    found = list(dict.fromkeys(file for group in groups for file in group))
+    return dict.fromkeys([*found, *line_ends(found)])
 
 
 def main(folder):

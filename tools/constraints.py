@@ -1,5 +1,5 @@
 #!/usr/bin/env python3
-"""A reader and type check of constraint files, by documents 01 and 003 and apart from the Rattle code.
+"""A reader and type check of constraint files, by documents 01, 02 and 003 and apart from the Rattle code.
 
 read(data) gives the File that the bytes spell, or the Refusal of their first fault. `--self-test` checks
 the documents' own files and edges.
@@ -51,7 +51,7 @@ TYPE = rb":i(0|[1-9][0-9]?)"
 VERSION = rb"([0-9]{1,4})\.([0-9]{1,4})"
 DECLARATION = rb"(" + NAME + rb")" + TYPE
 CONSTANT = rb"([0-9]{1,20})" + TYPE
-FORBIDDEN = rb"[^\t\n\x20-\x7e]"
+FORBIDDEN = rb"[^\t\x20-\x7e]"  # in a line, without its end
 SPELLINGS = {operator.encode(): operator for operator in OPERATORS}
 RESERVED = {spelling for spelling in SPELLINGS if spelling.isalpha()}
 
@@ -135,6 +135,22 @@ def read_operator(token):
 # Lines.
 
 
+def cut_lines(data):
+    """Each line of a file, with its start. One CR directly before an LF belongs to the line's end."""
+    *ended, last = data.split(b"\n")  # no LF behind the last
+    start = 0
+    for text in ended:
+        yield start, text.removesuffix(b"\r")
+        start += len(text) + 1
+    yield start, last
+
+
+def check_bytes(start, text):
+    forbidden = re.search(FORBIDDEN, text)
+    if forbidden:
+        raise Refused(2, start + forbidden.start())
+
+
 class Tokens:
     """The tokens of a line behind its kind, taken from left to right."""
 
@@ -203,9 +219,7 @@ def is_skipped(text):
 
 
 def read_line(file, start, text):
-    forbidden = re.search(FORBIDDEN, text)
-    if forbidden:
-        raise Refused(2, start + forbidden.start())
+    check_bytes(start, text)
     if is_skipped(text):
         return
     kind = text[:1]
@@ -218,10 +232,8 @@ def read_line(file, start, text):
 def read_file(data):
     require(len(data) <= FILE_BYTES, 1, FILE_BYTES)
     file = File()
-    start = 0
-    for text in data.split(b"\n"):
+    for start, text in cut_lines(data):
         read_line(file, start, text)
-        start += len(text) + 1
     require(file.edition, 4, len(data))
     return file
 
@@ -258,7 +270,7 @@ REFUSED = [
     (4, "¦"),
     (4, "# no version\ne 1\nd a:i8\nc a + a a\n¦"),
     (2, "v 1.0\n# caf¦\xe9\n"),
-    (2, "v 1.0¦\r\n"),
+    (2, "v 1.0¦\r\r\n"),
     (3, "v 1.0\n¦ d a:i8\n"),
     (3, "¦v1.0\n"),
     (3, "v 1.0\n¦s SATISFIABLE\n"),
@@ -299,6 +311,47 @@ REFUSED = [
     (15, "v 1.0\nd n:i8\nc 6:i3 ¦extr 22:i8 n 3:i8\n"),
 ]
 
+# The same with CRs: one directly before an LF belongs to the line's end, and any other is refused.
+
+READ_WITH_CRS = [
+    (0, 0, "v 1.0\r\n"),
+    (3, 1, "v 1.0\r\nd hi:i16 lo:i16 r:i32\r\nc r conc hi lo\r\n"),
+    (2, 2, "# mixed\r\nv 1.0\nd a:i8\r\ne 1\nd b:i8\n\r\nc a + a b\r\n \t\r\n\n#\r\n#\t\r\np = a b"),
+    (1, 1, "\r\n\r\n \r\n\t\r\nd\ta:i8 \r\nv 1.0\t\r\np = a a \t\r\n\r\n"),
+]
+
+REFUSED_WITH_CRS = [
+    (2, "v 1.0\r\n# two ¦\r\r\n"),
+    (2, "v 1.0\n¦\r\r\n"),
+    (2, "v 1.0¦\r\r\r\n"),
+    (2, "v 1.0¦\r"),
+    (2, "v 1.0\r\n¦\r"),
+    (2, "¦\r"),
+    (2, "v 1¦\r.0\r\n"),
+    (2, "v ¦\r1.0\r\n"),
+    (2, "v¦\r 1.0\r\n"),
+    (2, "v 1.0¦\r \n"),
+    (2, "¦\rv 1.0\r\n"),
+    (2, "v 1.0\r\n\r\n¦\rd a:i8\r\n"),
+    (2, "v 1.0\r\n# a comment¦\r, and more\r\n"),
+    (2, "v 1.0\n#¦\r#\n"),
+    (2, "v 1.0\r\nx ¦\ry\r\r\n"),
+    (2, "v 1.0\r\n# ¦\x00\r\n"),
+    (3, "¦x\r\nv 1.0\r\r\n"),
+    (3, "v 1.0\r\n¦ d a:i8\r\n"),
+    (4, "v 1.0\r\n\r\n¦v\r\n"),
+    (4, "# no version\r\n\r\n¦"),
+    (5, "\r\nv ¦1.2\r\n"),
+    (7, "v¦\r\n"),
+    (7, "v 1.0\r\ne \t ¦\r\n"),
+    (7, "v 1.0\r\nd¦\r\n"),
+    (7, "v 1.0\r\nd a:i8\r\nc a + a¦\r\n"),
+    (7, "v 1.0\r\nd a:i8\r\np¦\r\n\r\n"),
+    (7, "v 1.0\r\ne 0 ¦1\r\n"),
+    (13, "v 1.0\r\nd a:i8\r\nc a + a ¦b\r\n"),
+    (15, "v 1.0\r\nd hi:i16 lo:i16 r:i31\r\nc r ¦conc hi lo\r\n"),
+]
+
 
 def unmarked(text):
     """The bytes of a marked text, and the position of its mark."""
@@ -308,17 +361,21 @@ def unmarked(text):
 def self_test():
     reserved = b"ule uge ult ugt sle sge slt sgt ite trun sext zext conc extr"
     assert RESERVED == set(reserved.split())
-    for variables, lines, text in READ:
+    for variables, lines, text in READ + READ_WITH_CRS:
         file = read(text.encode())
         assert isinstance(file, File), (text, file)
         assert (len(file.variables), len(file.lines)) == (variables, lines), (text, file)
-    for number, text in REFUSED:
+    for number, text in REFUSED + REFUSED_WITH_CRS:
         data, position = unmarked(text)
         assert read(data) == (number, position), (text, read(data))
     assert isinstance(read(b"v 1.0\n#".ljust(65536)), File)
     assert read(b"v 1.0\n#".ljust(65537)) == (1, 65536)
+    assert isinstance(read(b"v 1.0\r\n#".ljust(65534) + b"\r\n"), File)
+    assert read(b"v 1.0\r\n#".ljust(65535) + b"\r") == (2, 65535)
+    assert read(b"v 1.0\r\n#".ljust(65535) + b"\r\n") == (1, 65536)
     whole = Line(Variable(b"r", 32), "conc", [Variable(b"hi", 16), Variable(b"lo", 16)])
-    assert read(READ[0][2].encode()) == File((1, 0), None, {b"hi": 16, b"lo": 16, b"r": 32}, [whole])
+    for text in (READ[0][2], READ_WITH_CRS[1][2]):
+        assert read(text.encode()) == File((1, 0), None, {b"hi": 16, b"lo": 16, b"r": 32}, [whole])
     assert read_constant(Token(b"300:i8", 0)) == Word(8, 44)
 
 
@@ -326,4 +383,4 @@ if __name__ == "__main__":
     if sys.argv[1:] != ["--self-test"]:
         sys.exit(f"usage: {sys.argv[0]} --self-test")
     self_test()
-    print(f"{len(READ)} files are read, {len(REFUSED)} refused")
+    print(f"{len(READ + READ_WITH_CRS)} files are read, {len(REFUSED + REFUSED_WITH_CRS)} refused")

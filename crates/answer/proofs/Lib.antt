@@ -13,5 +13,6 @@ pub mod LineKindLaws
 pub mod AcceptedLinesLaws
 pub mod OnceLaws
 pub mod AcceptsLaws
+pub mod SameContentsLaws
 pub mod FitLaws
 pub mod AnswerRefusesLaws

@@ -2,7 +2,7 @@
 use Prim.Native.Nat.{ℕ, suc, _+_, _≤_}
 use Prim.Native.Char.{code}
 use mathlib.Core.Path.{_≡_, refl}
-use mathlib.Core.Bool.{Bool, true, false, cond, not}
+use mathlib.Core.Bool.{Bool, true, false, cond}
 use mathlib.Core.List.{List, [], _∷_, _++_, map, flatMap}
 use native.Mathlib.Omega.{arith}
 use lib.Dec.{eqb}
@@ -10,8 +10,8 @@ use lib.ListN.{length, drop}
 use Rattle.refusal.proofs.ResultLaws.{never}
 use Rattle.refusal.proofs.BoolLaws.{and-true}
 use Rattle.text.specs.Bytes.{frontOf, isSpace, isLineFeed}
-use Rattle.text.specs.Lines.{TextLine, lineOf, linesFrom, textLines, Token, tokenOf, tokensFrom, leads}
-use Rattle.text.proofs.LineLaws.{inLine}
+use Rattle.text.specs.Lines.{TextLine, terminatorLength, contentOf, lineLength, lineOf, linesFrom, textLines, Token, tokenOf, tokensFrom, leads}
+use Rattle.text.proofs.ContentLaws.{ends-feed}
 use Rattle.text.proofs.AppendLaws.{tokens-none, tokens-space}
 use Rattle.plain.specs.Says.{leadingLetter, isSkipped, tokensBehind, saidBy, said}
 use Rattle.clean_text.proofs.Weights.{textsWeight, saidWeight, saidsWeight}
@@ -23,26 +23,30 @@ linesWeight ls = textsWeight (map (λ l. l .bytes) ls)
 abbrev tokensWeight : List Token → ℕ
 tokensWeight ts = textsWeight (map (λ t. t .bytes) ts)
 
--- the weight of what begins in s is at most its bytes and one, and that of what begins behind the run which goes on in s leaves room for that run
-abbrev Cut : (Bool → ℕ) → (ℕ → Bool) → List ℕ → Type 0
-Cut weightFrom goesOn s = (weightFrom true ≤ suc (length s)) × (weightFrom false + length (frontOf goesOn s) ≤ length s)
+-- the weight of what begins in s is at most its bytes and one, and that of what begins behind the piece which goes on in s leaves room for that piece
+abbrev Cut : (Bool → ℕ) → List ℕ → List ℕ → Type 0
+Cut weightFrom piece s = (weightFrom true ≤ suc (length s)) × (weightFrom false + length piece ≤ length s)
 
 -- the lines of a text
 abbrev LinesCut : List ℕ → ℕ → Type 0
-LinesCut s at = Cut (λ begins. linesWeight (linesFrom begins at s)) inLine s
+LinesCut s at = Cut (λ begins. linesWeight (linesFrom begins at s)) (contentOf s) s
 
 cut-lines : (s : List ℕ) (at : ℕ) → LinesCut s at
-unfolding linesFrom lineOf frontOf
+unfolding linesFrom lineOf contentOf
 cut-lines [] at = (omega arith, omega arith)
 cut-lines (b ∷ s) at = go (isLineFeed b) refl (cut-lines s (at + 1))
   where
+    goes-on : (t : Bool) → isLineFeed b ≡ false → LinesCut s (at + 1) → Cut (λ begins. linesWeight (cond begins (record { start = at; bytes = cond t (b ∷ contentOf s) []; next = at + lineLength (b ∷ s) } ∷ linesFrom false (at + 1) s) (linesFrom false (at + 1) s))) (cond t (b ∷ contentOf s) []) (b ∷ s)
+    goes-on true e ih = (omega arith, omega arith)
+    goes-on false e ih = (omega arith, omega arith)
+
     go : (t : Bool) → isLineFeed b ≡ t → LinesCut s (at + 1) → LinesCut (b ∷ s) at
-    go true e ih = rw e (omega arith, omega arith)
-    go false e ih = rw e (omega arith, omega arith)
+    go true e ih = rw (e, ends-feed (b ∷ s) e) (omega arith, omega arith)
+    go false e ih = rw e (goes-on (eqb (terminatorLength (b ∷ s)) 0) e ih)
 
 -- the tokens of a text
 abbrev TokensCut : List ℕ → ℕ → Type 0
-TokensCut s at = Cut (λ begins. tokensWeight (tokensFrom begins at s)) (λ b. not (isSpace b)) s
+TokensCut s at = Cut (λ begins. tokensWeight (tokensFrom begins at s)) (tokenOf at s .bytes) s
 
 cut-tokens : (s : List ℕ) (at : ℕ) → TokensCut s at
 unfolding tokensFrom tokenOf frontOf

@@ -1,22 +1,22 @@
 -- Lines of a letter and words, joined by LF, say those letters and words. Assumes nothing.
-use Prim.Native.Nat.{ℕ, suc, _+_, _≤_}
+use Prim.Native.Nat.{ℕ, suc, _+_}
 use Prim.Native.Char.{code}
 use mathlib.Core.Path.{_≡_, refl, ap, _∙_}
 use mathlib.Core.Bool.{Bool, true, false}
 use mathlib.Core.List.{List, [], _∷_, _++_, flatMap, append-nil}
 use native.Mathlib.Omega.{arith}
 use lib.Dec.{eqb}
-use lib.ListN.{length, length-append, drop-of-length-le}
+use lib.ListN.{length, length-append}
 use borrow.Author.Tests.{not-true}
 use Rattle.refusal.specs.Lists.{every}
 use Rattle.refusal.proofs.BoolLaws.{and-one}
-use Rattle.text.specs.Bytes.{frontOf, isSpace, isLineFeed, isAllowed}
+use Rattle.text.specs.Bytes.{isSpace, isAllowed}
 use Rattle.text.specs.Lines.{TextLine, lineOf, linesFrom, leads}
-use Rattle.text.proofs.LineLaws.{inLine, lines-cons}
+use Rattle.text.proofs.ContentLaws.{content-all}
 use Rattle.text.proofs.TokenLaws.{tokenBytes}
 use Rattle.text.proofs.ReadingLaws.{IsAllowed}
-use Rattle.text.proofs.AppendLaws.{run-front, lines-none, lines-front}
-use Rattle.text.proofs.SeenLaws.{isSeen, seen-allowed, seen-solid, seen-in-line}
+use Rattle.text.proofs.AppendLaws.{lines-front, lines-last}
+use Rattle.text.proofs.SeenLaws.{isSeen, seen-allowed, seen-solid}
 use Rattle.constraint.specs.Sound.{Each}
 use Rattle.constraint.proofs.SpacedLaws.{SeenWord, spaced-every, spaced-tokens, spaced-bytes}
 use Rattle.plain.specs.Says.{Said, leadingLetter, isSkipped, tokensBehind, saidBy, Pairwise}
@@ -44,10 +44,6 @@ module _ (text : List ℕ) (s : Said) (h : Spoken text s) where
   unfolding every lineText spaced
   line-every p e f = rw (h .is, f (s .letter) (h .letter .1)) (spaced-every p e f (s .tokens) (h .words))
 
-  line-plain : every inLine text ≡ true
-  unfolding isLineFeed
-  line-plain = line-every inLine refl seen-in-line
-
   line-allowed : every isAllowed text ≡ true
   unfolding isAllowed
   line-allowed = line-every isAllowed refl seen-allowed
@@ -70,14 +66,12 @@ module _ (text : List ℕ) (s : Said) (h : Spoken text s) where
 
   -- where it is the last line of a text
   last-bytes : (at : ℕ) → lineOf at text .bytes ≡ text
-  unfolding lineOf frontOf
-  last-bytes at = rw (append-nil text) at (run-front inLine text [] line-plain refl)
+  unfolding lineOf
+  last-bytes at = content-all text line-allowed
 
   last-line : (at : ℕ) → linesFrom true at text ≡ lineOf at text ∷ []
-  unfolding lineText lineOf
-  last-line at =
-      let k : length text ≤ suc (length (lineOf at text .bytes)) = omega (arith, ap length (last-bytes at)) in
-      lines-cons text at (omega (arith, ap length (h .is))) ∙ rw (drop-of-length-le text k, lines-none)
+  unfolding lineText
+  last-line at = lines-last text at line-allowed (omega (arith, ap length (h .is)))
 
 -- ---- a text of lines
 -- lines say these letters and words, and their bytes are allowed
@@ -100,4 +94,4 @@ text-says t (u ∷ ts) s [] at p = absurd (p .1)
 text-says t (u ∷ ts) s (r ∷ ss) at p =
     let next = at + suc (length t) in
     let q = text-says u ts r ss next (p .1) in
-    (rw (lines-front t (u ++ fed ts) at (line-plain t s (p .0))) (say-more _ (linesFrom true next (u ++ fed ts)) t s (r ∷ ss) refl (p .0) (q .0)), omega (arith, q .1, line-weight t s (p .0), length-append t (code "\n" ∷ u ++ fed ts)))
+    (rw (lines-front t (u ++ fed ts) at (line-allowed t s (p .0))) (say-more _ (linesFrom true next (u ++ fed ts)) t s (r ∷ ss) refl (p .0) (q .0)), omega (arith, q .1, line-weight t s (p .0), length-append t (code "\n" ∷ u ++ fed ts)))

@@ -2,7 +2,7 @@
 use Prim.Native.Nat.{ℕ, zero, suc, _<_}
 use mathlib.Core.Path.{_≡_}
 use mathlib.Core.Bool.{Bool, false}
-use mathlib.Core.List.{List, [], _∷_, _++_}
+use mathlib.Core.List.{List, [], _∷_, _++_, map, nil≢cons, cons≢nil, head-eq-of-cons-eq, tail-eq-of-cons-eq}
 use mathlib.Core.Option.{none}
 use native.Mathlib.Omega.{arith}
 use lib.ListN.{length, getD, take}
@@ -15,6 +15,13 @@ use Rattle.constraint.specs.Sound.{Each, Distinct}
 pub each-map : {A : Type 0} {P Q : A → Type 0} → ((x : A) → P x → Q x) → (xs : List A) → Each P xs → Each Q xs
 each-map h [] p = tt
 each-map h (x ∷ xs) p = (h x (p .0), each-map h xs (p .1))
+
+-- elements of another list that have the same keys
+pub each-same : {A B : Type 0} {P : A → Type 0} (key : A → B) → ((x y : A) → key x ≡ key y → P x → P y) → (xs ys : List A) → map key xs ≡ map key ys → Each P xs → Each P ys
+each-same key same [] [] e p = tt
+each-same key same [] (y ∷ ys) e p = absurd (nil≢cons e)
+each-same key same (x ∷ xs) [] e p = absurd (cons≢nil e)
+each-same key same (x ∷ xs) (y ∷ ys) e p = (same x y (head-eq-of-cons-eq e) (p .0), each-same key same xs ys (tail-eq-of-cons-eq e) (p .1))
 
 -- the element at a place
 pub each-at : {A : Type 0} (P : A → Type 0) (xs : List A) (i : ℕ) (d : A) → Each P xs → i < length xs → P (getD xs i d)

@@ -20,6 +20,7 @@ use Rattle.text.specs.Lines.{TextLine, lineEnd, lineOf, linesFrom, textLines, T
 use Rattle.text.specs.Reading.{nextToken, noMoreTokens, readAnyLine, readLines, readText}
 use Rattle.text.specs.Scan.{past}
 use Rattle.text.proofs.RunLaws.{past-le}
+use Rattle.text.proofs.ContentLaws.{content-short}
 use Rattle.constraint.specs.Sound.{Each}
 
 -- a run is no longer than what it is a run of
@@ -46,7 +47,7 @@ module _ (bytes : List ℕ) where
   lines-within begins at [] h = tt
   lines-within begins at (b ∷ s) h =
       each-cond LineWithin begins (lineOf at (b ∷ s)) (linesFrom (isLineFeed b) (at + 1) s)
-      (omega (arith, run-short (λ c. not (isLineFeed c)) (b ∷ s)))
+      (omega (arith, content-short (b ∷ s)))
       (lines-within (isLineFeed b) (at + 1) s (omega arith))
 
   tokens-within : (begins : Bool) (at : ℕ) (s : List ℕ) → at + length s ≤ length bytes → Each TokenWithin (tokensFrom begins at s)

@@ -10,8 +10,8 @@ use Rattle.refusal.specs.Lists.{every, firstFrom}
 use Rattle.refusal.specs.Result.{accepted}
 use Rattle.refusal.specs.SubjectWords.{ascii}
 use Rattle.refusal.proofs.ResultLaws.{never}
-use Rattle.text.specs.Bytes.{same, frontOf, isSpace, isLineFeed, isAllowed, isDigit, isLetter, isNameByte}
-use Rattle.text.specs.Lines.{lineOf, linesFrom, tokenOf, tokensFrom, leads}
+use Rattle.text.specs.Bytes.{same, frontOf, isSpace, isLineFeed, isCarriageReturn, isAllowed, isDigit, isLetter, isNameByte}
+use Rattle.text.specs.Lines.{terminatorLength, contentOf, lineLength, lineOf, linesFrom, tokenOf, tokensFrom, leads}
 use Rattle.text.specs.Spelling.{isName, isNumeral, decimalFrom, leadingZero, isType, upTo, behind}
 use Rattle.text.specs.Reading.{readAnyLine, readLines, readText}
 use Rattle.spelling.specs.Operators.{bitwiseSpellings, predicateSpellings, arithmeticSpellings, shiftAndCastSpellings, spellings, operatorSpelt}
@@ -36,11 +36,11 @@ abbrev switchFile : File
 switchFile = record { version = some edition10; expectation = none; variables = record { name = ascii "a"; width = 1 } ∷ []; lines = [] }
 
 switch-read : readFile switch ≡ accepted switchFile
-unfolding editionNumbered isWidth every firstFrom same frontOf isSpace isLineFeed isAllowed isDigit isLetter isNameByte lineOf linesFrom tokenOf tokensFrom leads isName isNumeral decimalFrom leadingZero isType upTo behind readAnyLine readLines readText variableNamed bitwiseSpellings predicateSpellings arithmeticSpellings shiftAndCastSpellings spellings operatorSpelt inHeader readSingle versionOf readVersion declare declareAll readDeclarations kindOf readAs readLine readFile
+unfolding editionNumbered isWidth every firstFrom same frontOf isSpace isLineFeed isCarriageReturn isAllowed isDigit isLetter isNameByte terminatorLength contentOf lineLength lineOf linesFrom tokenOf tokensFrom leads isName isNumeral decimalFrom leadingZero isType upTo behind readAnyLine readLines readText variableNamed bitwiseSpellings predicateSpellings arithmeticSpellings shiftAndCastSpellings spellings operatorSpelt inHeader readSingle versionOf readVersion declare declareAll readDeclarations kindOf readAs readLine readFile
 switch-read = refl
 
 down-read : answer.readAnswer (switchFile .variables) switchDown ≡ accepted (0 ∷ [])
-unfolding every firstFrom same frontOf isSpace isLineFeed isAllowed isDigit isLetter isNameByte lineOf linesFrom tokenOf tokensFrom leads isName isNumeral decimalFrom upTo behind readAnyLine readLines readText variableNamed widthAt bitwiseSpellings predicateSpellings arithmeticSpellings shiftAndCastSpellings spellings operatorSpelt answer.solutionOf answer.readWord answer.readSolution answer.settingOf answer.readSetting answer.readSettings answer.readValues answer.answerKind answer.readAnswerAs answer.readAnswerLine answer.allSet answer.readAnswer
+unfolding every firstFrom same frontOf isSpace isLineFeed isCarriageReturn isAllowed isDigit isLetter isNameByte terminatorLength contentOf lineLength lineOf linesFrom tokenOf tokensFrom leads isName isNumeral decimalFrom upTo behind readAnyLine readLines readText variableNamed widthAt bitwiseSpellings predicateSpellings arithmeticSpellings shiftAndCastSpellings spellings operatorSpelt answer.solutionOf answer.readWord answer.readSolution answer.settingOf answer.readSetting answer.readSettings answer.readValues answer.answerKind answer.readAnswerAs answer.readAnswerLine answer.allSet answer.readAnswer
 down-read = refl
 
 switch-checked : AcceptedCheck switch switchDown (0 ∷ []) [] switchFile (0 ∷ []) (0 ∷ []) []

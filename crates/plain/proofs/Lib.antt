@@ -6,3 +6,4 @@ pub mod KindLaws
 pub mod OthersLaws
 pub mod HeaderLaws
 pub mod SaysLaws
+pub mod SameContentsLaws

@@ -1,10 +1,10 @@
--- 01's edges: texts, and what is said of them.
+-- The edges of 01, and of line ends: texts, and what is said of them.
 use Prim.Native.Nat.{ℕ}
 use Prim.Native.String.{String}
 use mathlib.Core.Path.{_≡_}
 use mathlib.Core.List.{List, [], _∷_, map}
 use Rattle.refusal.specs.declared.Subject.the-variants.{Constraint}
-use Rattle.refusal.specs.Numbers.{misplacedLine, misspelt, notAWidth, numberTooLarge, unknownOperator, typeRuleBroken}
+use Rattle.refusal.specs.Numbers.{byteNotAllowed, misplacedLine, tokenCount, misspelt, notAWidth, numberTooLarge, unknownOperator, typeRuleBroken}
 use Rattle.refusal.specs.Result.{accepted, refusal}
 use Rattle.refusal.specs.SubjectWords.{ascii}
 use Rattle.constraint.specs.declared.Operand.the-variants.{Const}
@@ -38,6 +38,11 @@ edges =
     ∷ refusedAt "v 1.0\nd a:i8\np != a a\n" unknownOperator 15
     ∷ read "v 1.0\nd hi:i16 lo:i16 r:i32\nc r conc hi lo\n" 3 1
     ∷ refusedAt "v 1.0\nd hi:i16 lo:i16 r:i31\nc r conc hi lo\n" typeRuleBroken 32
+    ∷ read "v 1.0\r\nd a:i8\r\n\r\n# x\r\np = a 1:i8\n" 1 1
+    ∷ refusedAt "v 1.0\r" byteNotAllowed 5
+    ∷ refusedAt "v 1.0\r\r\n" byteNotAllowed 5
+    ∷ refusedAt "v 1.0\r\n#\rd\n" byteNotAllowed 8
+    ∷ refusedAt "v\r\n" tokenCount 1
     ∷ []
 
 pub record Edges : Type 0 where

@@ -1,8 +1,8 @@
--- Elements that pass a test: all of them, the first of them; and things that are there or not. Assumes nothing.
+-- Elements that pass a test: all of them, the first of them; things that are there or not; what is made of each element, joined. Assumes nothing.
 use Prim.Native.Nat.{ℕ, suc, _+_, _≤_, _<_}
-use mathlib.Core.Path.{_≡_, refl}
+use mathlib.Core.Path.{_≡_, refl, _∙_}
 use mathlib.Core.Bool.{Bool, true, false, not, cond}
-use mathlib.Core.List.{List, [], _∷_, _++_}
+use mathlib.Core.List.{List, [], _∷_, _++_, map, flatMap, nil≢cons, cons≢nil, head-eq-of-cons-eq, tail-eq-of-cons-eq, map-append}
 use mathlib.Core.Option.{Option, none, some}
 use native.Mathlib.Nat.{add-zero}
 use native.Mathlib.Numerals.{add-one}
@@ -133,3 +133,17 @@ found-passes test n k (m ∷ ns) h e =
 pub one-passes : (test : ℕ → Bool) (n : ℕ) (ns : List ℕ) → every test ns ≡ true → isOneOf n ns ≡ true → test n ≡ true
 unfolding isOneOf
 one-passes test n ns = found-passes test n 0 ns
+
+-- what is made of each element, joined, where the elements' keys decide it; and what is made of that
+module _ {A B C : Type 0} where
+  pub flatMap-same : {f : A → List C} (key : A → B) → ((x y : A) → key x ≡ key y → f x ≡ f y) → (xs ys : List A) → map key xs ≡ map key ys → flatMap f xs ≡ flatMap f ys
+  unfolding flatMap
+  flatMap-same key same [] [] e = refl
+  flatMap-same key same [] (y ∷ ys) e = absurd (nil≢cons e)
+  flatMap-same key same (x ∷ xs) [] e = absurd (cons≢nil e)
+  flatMap-same key same (x ∷ xs) (y ∷ ys) e = rw (same x y (head-eq-of-cons-eq e), flatMap-same key same xs ys (tail-eq-of-cons-eq e))
+
+  pub map-flatMap : (f : A → List B) (g : B → C) (xs : List A) → map g (flatMap f xs) ≡ flatMap (λ x. map g (f x)) xs
+  unfolding flatMap
+  map-flatMap f g [] = refl
+  map-flatMap f g (x ∷ xs) = map-append g (f x) (flatMap f xs) ∙ rw (map-flatMap f g xs)

@@ -4,8 +4,8 @@ use Rattle.edition.specs.Edition.{editionNumbered, isWidth}
 use Rattle.refusal.specs.Lists.{every, firstFrom, howMany}
 use Rattle.arithmetic.specs.Rules.{arity, widthsHold, joins, typed}
 use Rattle.arithmetic.specs.Meaning.{valueOf, meaning}
-use Rattle.text.specs.Bytes.{same, frontOf, isSpace, isLineFeed, isAllowed, isDigit, isLetter, isNameByte}
-use Rattle.text.specs.Lines.{lineOf, linesFrom, tokenOf, tokensFrom, leads}
+use Rattle.text.specs.Bytes.{same, frontOf, isSpace, isLineFeed, isCarriageReturn, isAllowed, isDigit, isLetter, isNameByte}
+use Rattle.text.specs.Lines.{terminatorLength, contentOf, lineLength, lineOf, linesFrom, tokenOf, tokensFrom, leads}
 use Rattle.text.specs.Spelling.{isName, isNumeral, decimalFrom, leadingZero, isType, upTo, behind}
 use Rattle.text.specs.Reading.{readAnyLine, readLines, readText}
 use Rattle.constraint.specs.File.{variableNamed, widthAt, operandWord, target}
@@ -21,5 +21,5 @@ use Rattle.report.specs.Text.{overallText, tallyText, reportText}
 use Rattle.report.specs.Claims.{CaseWhole}
 
 pub case-whole : CaseWhole
-unfolding editionNumbered isWidth every firstFrom howMany arity widthsHold joins typed valueOf meaning same frontOf isSpace isLineFeed isAllowed isDigit isLetter isNameByte lineOf linesFrom tokenOf tokensFrom leads isName isNumeral decimalFrom leadingZero isType upTo behind readAnyLine readLines readText variableNamed widthAt operandWord target ruleWord resultWidth constantRule predicateRule wellTyped bitwiseSpellings predicateSpellings arithmeticSpellings shiftAndCastSpellings spellings operatorSpelt inHeader readSingle versionOf readVersion declare declareAll readDeclarations readVariable readOperand nextOperand readOperands readOperation nextOutput readStatement kindOf readAs readLine readFile resultOf judge verdictsOf firstVerdict overallOf answer.solutionOf answer.readWord answer.readSolution answer.settingOf answer.readSetting answer.readSettings answer.readValues answer.answerKind answer.readAnswerAs answer.readAnswerLine answer.allSet answer.readAnswer answering digitsIn digits refusalText overallText tallyText reportText
+unfolding editionNumbered isWidth every firstFrom howMany arity widthsHold joins typed valueOf meaning same frontOf isSpace isLineFeed isCarriageReturn isAllowed isDigit isLetter isNameByte terminatorLength contentOf lineLength lineOf linesFrom tokenOf tokensFrom leads isName isNumeral decimalFrom leadingZero isType upTo behind readAnyLine readLines readText variableNamed widthAt operandWord target ruleWord resultWidth constantRule predicateRule wellTyped bitwiseSpellings predicateSpellings arithmeticSpellings shiftAndCastSpellings spellings operatorSpelt inHeader readSingle versionOf readVersion declare declareAll readDeclarations readVariable readOperand nextOperand readOperands readOperation nextOutput readStatement kindOf readAs readLine readFile resultOf judge verdictsOf firstVerdict overallOf answer.solutionOf answer.readWord answer.readSolution answer.settingOf answer.readSetting answer.readSettings answer.readValues answer.answerKind answer.readAnswerAs answer.readAnswerLine answer.allSet answer.readAnswer answering digitsIn digits refusalText overallText tallyText reportText
 case-whole = record { violated = refl; satisfied = refl; refused = refl }

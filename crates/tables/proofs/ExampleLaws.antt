@@ -11,8 +11,8 @@ use Rattle.refusal.specs.SubjectWords.{ascii}
 use Rattle.refusal.proofs.ResultLaws.{never}
 use Rattle.arithmetic.specs.Rules.{arity, widthsHold, joins, typed}
 use Rattle.arithmetic.specs.Meaning.{valueOf, meaning}
-use Rattle.text.specs.Bytes.{same, frontOf, isSpace, isLineFeed, isAllowed, isDigit, isLetter, isNameByte}
-use Rattle.text.specs.Lines.{lineOf, linesFrom, tokenOf, tokensFrom, leads}
+use Rattle.text.specs.Bytes.{same, frontOf, isSpace, isLineFeed, isCarriageReturn, isAllowed, isDigit, isLetter, isNameByte}
+use Rattle.text.specs.Lines.{terminatorLength, contentOf, lineLength, lineOf, linesFrom, tokenOf, tokensFrom, leads}
 use Rattle.text.specs.Spelling.{isName, isNumeral, decimalFrom, leadingZero, isType, upTo, behind}
 use Rattle.text.specs.Reading.{readAnyLine, readLines, readText}
 use Rattle.constraint.specs.File.{variableNamed, widthAt, operandWord, target}
@@ -34,7 +34,7 @@ abbrev exampleAnswer : List ℕ
 exampleAnswer = ascii "s SATISFIABLE\nv hi=17056 lo=17060 r=1117799076\n"
 
 example-satisfied : checkOutcome example exampleAnswer (0 ∷ 0 ∷ 0 ∷ []) (0 ∷ []) .reply ≡ Checked Satisfied
-unfolding editionNumbered isWidth every firstFrom arity widthsHold joins typed valueOf meaning same frontOf isSpace isLineFeed isAllowed isDigit isLetter isNameByte lineOf linesFrom tokenOf tokensFrom leads isName isNumeral decimalFrom leadingZero isType upTo behind readAnyLine readLines readText variableNamed widthAt operandWord target ruleWord resultWidth constantRule predicateRule wellTyped bitwiseSpellings predicateSpellings arithmeticSpellings shiftAndCastSpellings spellings operatorSpelt inHeader readSingle versionOf readVersion declare declareAll readDeclarations readVariable readOperand nextOperand readOperands readOperation nextOutput readStatement kindOf readAs readLine readFile resultOf judge verdictsOf firstVerdict overallOf answer.solutionOf answer.readWord answer.readSolution answer.settingOf answer.readSetting answer.readSettings answer.readValues answer.answerKind answer.readAnswerAs answer.readAnswerLine answer.allSet answer.readAnswer checkingFor checking
+unfolding editionNumbered isWidth every firstFrom arity widthsHold joins typed valueOf meaning same frontOf isSpace isLineFeed isCarriageReturn isAllowed isDigit isLetter isNameByte terminatorLength contentOf lineLength lineOf linesFrom tokenOf tokensFrom leads isName isNumeral decimalFrom leadingZero isType upTo behind readAnyLine readLines readText variableNamed widthAt operandWord target ruleWord resultWidth constantRule predicateRule wellTyped bitwiseSpellings predicateSpellings arithmeticSpellings shiftAndCastSpellings spellings operatorSpelt inHeader readSingle versionOf readVersion declare declareAll readDeclarations readVariable readOperand nextOperand readOperands readOperation nextOutput readStatement kindOf readAs readLine readFile resultOf judge verdictsOf firstVerdict overallOf answer.solutionOf answer.readWord answer.readSolution answer.settingOf answer.readSetting answer.readSettings answer.readValues answer.answerKind answer.readAnswerAs answer.readAnswerLine answer.allSet answer.readAnswer checkingFor checking
 example-satisfied = refl
 
 -- empty files

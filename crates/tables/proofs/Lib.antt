@@ -3,6 +3,7 @@ pub mod KnownLaws
 pub mod CheckingLaws
 pub mod RepliesLaws
 pub mod SatisfiedLaws
+pub mod SameContentsLaws
 pub mod ExampleLaws
 pub mod CheckLaws
 pub mod CountLaws

@@ -1,17 +1,18 @@
 -- Texts that are put together: where the run, the line or the token in front ends. Assumes nothing.
-use Prim.Native.Nat.{ℕ, suc, _+_, _<_}
+use Prim.Native.Nat.{ℕ, suc, _+_, _≤_, _<_}
 use mathlib.Core.Path.{_≡_, refl, ap, _∙_}
 use mathlib.Core.List.{List, [], _∷_, _++_, append-nil}
 use mathlib.Core.Bool.{Bool, true, not}
 use native.Mathlib.Numerals.{add-one}
 use native.Mathlib.Omega.{arith}
-use lib.ListN.{length, take, drop, length-append, length-take}
+use lib.ListN.{length, length-append, drop-of-length-le}
 use lib.Seq.{drop-append-seam, drop-append-add}
 use borrow.Author.Tests.{not-true}
 use Rattle.refusal.specs.Lists.{every}
 use Rattle.refusal.proofs.BoolLaws.{and-true}
-use Rattle.text.specs.Bytes.{frontOf, isSpace, isLineFeed}
-use Rattle.text.specs.Lines.{lineOf, linesFrom, tokenOf, tokensFrom}
+use Rattle.text.specs.Bytes.{frontOf, isSpace, isLineFeed, isAllowed}
+use Rattle.text.specs.Lines.{contentOf, lineLength, lineOf, linesFrom, tokenOf, tokensFrom}
+use Rattle.text.proofs.ContentLaws.{ends-feed, content-none, content-through, content-all}
 use Rattle.text.proofs.LineLaws.{lines-cons}
 use Rattle.text.proofs.TokenLaws.{tokens-cons}
 
@@ -25,22 +26,26 @@ run-through p (b ∷ s) t h = let q = and-true (p b) (every p s) h in rw (q .0) 
 pub run-front : (p : ℕ → Bool) (s t : List ℕ) → every p s ≡ true → frontOf p t ≡ [] → frontOf p (s ++ t) ≡ s
 run-front p s t h e = run-through p s t h ∙ rw e (append-nil s)
 
--- what stands behind one element more than a text
-drop-behind : (s t : List ℕ) (c : ℕ) → drop (suc (length s)) (s ++ c ∷ t) ≡ t
-drop-behind s t c = rw (← add-one (length s)) (drop-append-add s (c ∷ t) 1)
-
 -- no bytes, no line
 pub lines-none : (at : ℕ) → linesFrom true at [] ≡ []
 unfolding linesFrom
 lines-none at = refl
 
--- the line of a text without LF that LF ends, and the lines behind it
-pub lines-front : (a b : List ℕ) (at : ℕ) → every (λ c. not (isLineFeed c)) a ≡ true → linesFrom true at (a ++ 10 ∷ b) ≡ record { start = at; bytes = a; next = at + suc (length a) } ∷ linesFrom true (at + suc (length a)) b
-unfolding lineOf frontOf isLineFeed
+-- the line of a text whose bytes are allowed, where LF ends it, and the lines behind it
+pub lines-front : (a b : List ℕ) (at : ℕ) → every isAllowed a ≡ true → linesFrom true at (a ++ 10 ∷ b) ≡ record { start = at; bytes = a; next = at + suc (length a) } ∷ linesFrom true (at + suc (length a)) b
+unfolding lineOf lineLength isLineFeed
 lines-front a b at h =
-    let r = run-front (λ c. not (isLineFeed c)) a (10 ∷ b) h refl in
-    let l : length (take (suc (length a)) (a ++ 10 ∷ b)) ≡ suc (length a) = omega (arith, length-take (suc (length a)) (a ++ 10 ∷ b), length-append a (10 ∷ b)) in
-    lines-cons (a ++ 10 ∷ b) at (omega (arith, length-append a (10 ∷ b))) ∙ rw (r, l, drop-behind a b 10)
+    let ends = ends-feed (10 ∷ b) refl in
+    let c : contentOf (a ++ 10 ∷ b) ≡ a = content-through a (10 ∷ b) h ∙ rw (content-none (10 ∷ b) (omega (arith, ends))) (append-nil a) in
+    let n : lineLength (a ++ 10 ∷ b) ≡ suc (length a) = rw (c, drop-append-seam a (10 ∷ b), ends) (omega arith) in
+    lines-cons (a ++ 10 ∷ b) at (omega (arith, length-append a (10 ∷ b))) ∙ rw (n, c, ← add-one (length a), drop-append-add a (10 ∷ b) 1)
+
+-- that line, where the file ends it
+pub lines-last : (a : List ℕ) (at : ℕ) → every isAllowed a ≡ true → 0 < length a → linesFrom true at a ≡ lineOf at a ∷ []
+unfolding lineLength contentOf
+lines-last a at h some =
+    let n : length a ≤ lineLength a = omega (arith, ap length (content-all a h)) in
+    lines-cons a at some ∙ rw (drop-of-length-le a n, lines-none)
 
 -- no bytes, no token
 pub tokens-none : (at : ℕ) → tokensFrom true at [] ≡ []

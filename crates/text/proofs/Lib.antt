@@ -2,6 +2,8 @@
 pub mod RunLaws
 pub mod ScanLaws
 pub mod StopLaws
+pub mod ContentLaws
+pub mod EndingLaws
 pub mod LineLaws
 pub mod TokenLaws
 pub mod NumberLaws

@@ -1,52 +1,45 @@
 -- A file's lines: the turn of a loop over them, and the letter that leads a line. Assumes nothing.
-use Prim.Native.Nat.{ℕ, zero, suc, _+_, _≤_, _<_}
+use Prim.Native.Nat.{ℕ, suc, _+_, _≤_, _<_}
 use mathlib.Core.Path.{_≡_, refl, ap, _∙_}
 use mathlib.Core.List.{List, [], _∷_}
-use mathlib.Core.Bool.{Bool, true, false, not, _&&_}
+use mathlib.Core.Bool.{Bool, true, false, _&&_}
 use native.Mathlib.Decide.{decLt}
 use native.Mathlib.Numerals.{add-one}
 use native.Mathlib.Omega.{arith}
-use lib.ListN.{length, getD, take, drop, length-drop, drop-of-length-le}
+use lib.ListN.{length, getD, drop, length-drop, drop-of-length-le}
 use lib.Dec.{eqb}
 use lib.Seq.{drop-cons, drop-drop}
 use Rattle.refusal.specs.Lists.{every}
+use Rattle.refusal.proofs.BoolLaws.{and-true}
 use Rattle.refusal.proofs.ResultLaws.{never}
-use Rattle.text.specs.Bytes.{frontOf, isLineFeed, isSpace}
-use Rattle.text.specs.Lines.{TextLine, lineOf, linesFrom, leads}
+use Rattle.text.specs.Bytes.{isLineFeed, isCarriageReturn, isSpace}
+use Rattle.text.specs.Lines.{TextLine, lineLength, lineOf, linesFrom, leads}
 use Rattle.text.specs.declared.Class.the-variants.{Space}
 use Rattle.text.specs.Scan.{isOf}
 use Rattle.text.proofs.RunLaws.{every-end}
-
--- a byte that does not end a line
-abbrev pub inLine : ℕ → Bool
-inLine b = not (isLineFeed b)
+use Rattle.text.proofs.ContentLaws.{ends-feed, ends-return, ends-not, length-ended, length-on}
 
 -- the lines behind the one that goes on in the bytes s, which stand at `at`
 abbrev later : ℕ → List ℕ → List TextLine
-later at s = let n = suc (length (frontOf inLine s)) in linesFrom true (at + length (take n s)) (drop n s)
+later at s = linesFrom true (at + lineLength s) (drop (lineLength s) s)
 
 lines-later : (s : List ℕ) (at : ℕ) → linesFrom false at s ≡ later at s
-unfolding linesFrom frontOf
-lines-later [] at = refl
-lines-later (b ∷ s) at = go (isLineFeed b) refl (lines-later s (at + 1))
+unfolding linesFrom
+lines-later [] at = let h : 0 ≤ lineLength [] = omega arith in rw (drop-of-length-le [] h)
+lines-later (b ∷ s) at = go (isLineFeed b) (isCarriageReturn b && isLineFeed (getD s 0 0)) refl refl (lines-later s (at + 1))
   where
     shift : (n : ℕ) → at + 1 + n ≡ at + suc n
     shift n = omega arith
 
-    go : (t : Bool) → isLineFeed b ≡ t → linesFrom false (at + 1) s ≡ later (at + 1) s → linesFrom false at (b ∷ s) ≡ later at (b ∷ s)
-    go true e ih = rw e
-    go false e ih = rw e (ih ∙ rw shift)
+    go : (t u : Bool) → isLineFeed b ≡ t → (isCarriageReturn b && isLineFeed (getD s 0 0)) ≡ u → linesFrom false (at + 1) s ≡ later (at + 1) s → linesFrom false at (b ∷ s) ≡ later at (b ∷ s)
+    go true u e k ih = rw (length-ended 0 (b ∷ s) (ends-feed (b ∷ s) e), e)
+    go false true e k ih = rw (length-ended 1 (b ∷ s) (ends-return (b ∷ s) e k), e) (ih ∙ rw (length-ended 0 s (ends-feed s (and-true (isCarriageReturn b) _ k .1)), shift))
+    go false false e k ih = rw (length-on b s (ends-not (b ∷ s) e k), e) (ih ∙ rw shift)
 
 pub lines-cons : (s : List ℕ) (at : ℕ) → 0 < length s → linesFrom true at s ≡ lineOf at s ∷ later at s
 unfolding linesFrom
 lines-cons [] at h = absurd (omega arith)
 lines-cons (b ∷ s) at h = ap (λ (l : List TextLine). lineOf at (b ∷ s) ∷ l) (lines-later (b ∷ s) at)
-
--- to drop n is to drop as many as there are, up to n
-drop-those : (n : ℕ) (s : List ℕ) → drop n s ≡ drop (length (take n s)) s
-drop-those zero s = refl
-drop-those (suc n) [] = refl
-drop-those (suc n) (b ∷ s) = drop-those n s
 
 -- the line at a place of f
 abbrev pub lineFrom : List ℕ → ℕ → TextLine
@@ -56,9 +49,8 @@ lineFrom f at = lineOf at (drop at f)
 pub lines-turn : (f : List ℕ) (at : ℕ) → at < length f → linesFrom true at (drop at f) ≡ lineFrom f at ∷ linesFrom true (lineFrom f at .next) (drop (lineFrom f at .next) f)
 unfolding lineOf
 lines-turn f at h =
-    let n = suc (length (frontOf inLine (drop at f))) in
-    lines-cons (drop at f) at (omega (arith, length-drop at f))
-    ∙ ap (λ (s : List ℕ). lineFrom f at ∷ linesFrom true (lineFrom f at .next) s) (drop-those n (drop at f) ∙ drop-drop (length (take n (drop at f))) at f)
+    let n = lineLength (drop at f) in
+    lines-cons (drop at f) at (omega (arith, length-drop at f)) ∙ ap (λ (s : List ℕ). lineFrom f at ∷ linesFrom true (at + n) s) (drop-drop n at f)
 
 pub lines-end : (f : List ℕ) (at : ℕ) → length f ≤ at → linesFrom true at (drop at f) ≡ []
 unfolding linesFrom

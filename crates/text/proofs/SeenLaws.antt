@@ -9,12 +9,12 @@ use lib.Dec.{eqb, leb}
 use borrow.Author.Tests.{le-leb, lt-leb, leb-true, eqb-true, ne-eqb}
 use Rattle.refusal.specs.Lists.{every}
 use Rattle.refusal.proofs.BoolLaws.{and-false, and-true, either}
-use Rattle.text.specs.Bytes.{between, isSpace, isLineFeed, isAllowed, isDigit, isLetter, isNameByte}
+use Rattle.text.specs.Bytes.{between, isSpace, isAllowed, isDigit, isLetter, isNameByte}
 use Rattle.text.specs.Spelling.{isName}
 use Rattle.refusal.proofs.ListLaws.{every-weaken}
 use Rattle.refusal.proofs.ResultLaws.{never}
 
--- a byte that is seen: it is allowed, and it is neither white space nor LF
+-- a byte that is seen: it is allowed, and it is no white space
 unfoldable pub isSeen : ℕ → Bool
 isSeen = between 33 126
 
@@ -30,10 +30,6 @@ seen-allowed b e = let q = bounds 33 126 b e in rw (ne-eqb b 9 (omega arith), le
 pub seen-solid : (b : ℕ) → isSeen b ≡ true → not (isSpace b) ≡ true
 unfolding isSeen isSpace
 seen-solid b e = let q = bounds 33 126 b e in rw (ne-eqb b 32 (omega arith), ne-eqb b 9 (omega arith))
-
-pub seen-in-line : (b : ℕ) → isSeen b ≡ true → not (isLineFeed b) ≡ true
-unfolding isSeen isLineFeed
-seen-in-line b e = let q = bounds 33 126 b e in rw (ne-eqb b 10 (omega arith))
 
 -- digits, and that they are seen
 pub digit-bounds : (b : ℕ) → isDigit b ≡ true → (48 ≤ b) × (b ≤ 57)

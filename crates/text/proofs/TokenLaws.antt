@@ -2,13 +2,13 @@
 use Prim.Native.Nat.{ℕ, suc, _+_, _≤_, _<_}
 use mathlib.Core.Path.{_≡_, refl, ap, _∙_}
 use mathlib.Core.List.{List, [], _∷_, _++_, map, nil≢cons, cons≢nil, head-eq-of-cons-eq, tail-eq-of-cons-eq}
-use mathlib.Core.Bool.{Bool, true, false, not}
+use mathlib.Core.Bool.{Bool, true, false, cond, not, _&&_}
 use native.Mathlib.Nat.{add-zero}
 use native.Mathlib.Omega.{arith}
 use lib.ListN.{length, getD, take, drop, drop-of-length-le, length-drop, length-append}
 use lib.Seq.{drop-cons, drop-drop, drop-at}
 use Rattle.text.specs.Bytes.{frontOf, isSpace}
-use Rattle.text.specs.Lines.{Token, tokenOf, tokensFrom, arguments, lineEnd}
+use Rattle.text.specs.Lines.{TextLine, Token, tokenOf, tokensFrom, arguments, lineEnd}
 use Rattle.text.specs.Spelling.{upTo, behind}
 use Rattle.text.specs.declared.Class.the-variants.{Until, Space, Solid}
 use Rattle.text.specs.Scan.{isOf, past, lineAt}
@@ -53,6 +53,23 @@ pub tokens-cons : (s : List ℕ) (at b : ℕ) → isSpace b ≡ false → tokens
 unfolding tokensFrom
 tokens-cons s at b e = rw e (ap (λ (l : List Token). tokenOf at (b ∷ s) ∷ l) (rw e at (tokens-rest (b ∷ s) at)))
 
+-- the bytes of tokens: the first of them and those behind it, and no token
+abbrev pub tokenBytes : List Token → List (List ℕ)
+tokenBytes = map (λ t. t .bytes)
+
+-- they do not depend on where the tokens stand
+tokens-moved : (s : List ℕ) (begins : Bool) (at on : ℕ) → tokenBytes (tokensFrom begins at s) ≡ tokenBytes (tokensFrom begins on s)
+unfolding tokensFrom tokenOf
+tokens-moved [] begins at on = refl
+tokens-moved (b ∷ s) begins at on = go (begins && not (isSpace b)) (tokens-moved s (isSpace b) (at + 1) (on + 1))
+  where
+    go : (t : Bool) → tokenBytes (tokensFrom (isSpace b) (at + 1) s) ≡ tokenBytes (tokensFrom (isSpace b) (on + 1) s) → tokenBytes (cond t (tokenOf at (b ∷ s) ∷ tokensFrom (isSpace b) (at + 1) s) (tokensFrom (isSpace b) (at + 1) s)) ≡ tokenBytes (cond t (tokenOf on (b ∷ s) ∷ tokensFrom (isSpace b) (on + 1) s) (tokensFrom (isSpace b) (on + 1) s))
+    go true ih = ap (λ (ts : List (List ℕ)). frontOf solid (b ∷ s) ∷ ts) ih
+    go false ih = ih
+
+pub arguments-moved : (l m : TextLine) → l .bytes ≡ m .bytes → tokenBytes (arguments l) ≡ tokenBytes (arguments m)
+arguments-moved l m e = rw e (tokens-moved (drop 1 (m .bytes)) true (l .start + 1) (m .start + 1))
+
 module _ (f : List ℕ) (i : ℕ) where
   tokens-skip : tokensFrom true i (drop i f) ≡ tokensFrom true (past isSpace f i) (drop (past isSpace f i) f)
   unfolding past
@@ -92,10 +109,6 @@ module _ (line : List ℕ) (i b : ℕ) (hb : b ≡ past (isOf Space) line i) whe
         let s : solid (getD line b 0) ≡ true = rw at-token in
         let m = past-more solid line b h s in
         (omega (arith, past-ge (isOf Space) line i), omega (arith, past-ge solid line (b + 1), stopped), omega (arith, past-le solid line b (omega arith), stopped), rw (he, ← run-part (isOf Solid) line b (omega arith)) (every-of-run (isOf Solid) (drop b line)))
-
--- the bytes of tokens: the first of them and those behind it, and no token
-abbrev pub tokenBytes : List Token → List (List ℕ)
-tokenBytes = map (λ t. t .bytes)
 
 pub first-token : (ts : List Token) (w : List ℕ) (ws : List (List ℕ)) → tokenBytes ts ≡ w ∷ ws → (t : Token) × (rest : List Token) × (ts ≡ t ∷ rest) × (t .bytes ≡ w) × (tokenBytes rest ≡ ws)
 first-token [] w ws e = absurd (nil≢cons e)

@@ -25,15 +25,18 @@ between a z b = leb a b && leb b z
 unfoldable pub isSpace : ℕ → Bool
 isSpace b = eqb b (code " ") || eqb b (code "\t")
 
--- LF
+-- LF, and CR
 unfoldable pub isLineFeed : ℕ → Bool
 isLineFeed b = eqb b (code "\n")
+
+unfoldable pub isCarriageReturn : ℕ → Bool
+isCarriageReturn b = eqb b (code "\r")
 
 -- the printing bytes, with the space
 abbrev pub isPrinting : ℕ → Bool
 isPrinting = between 32 126
 
--- the bytes allowed in a line: "tab, LF, 32 to 126", of which LF ends it
+-- the bytes allowed in a line: "tab, LF, 32 to 126", of which LF ends it; "any other CR stays refused 2"
 unfoldable pub isAllowed : ℕ → Bool
 isAllowed b = eqb b (code "\t") || isPrinting b
 

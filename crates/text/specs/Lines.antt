@@ -1,10 +1,10 @@
 -- A file as lines, and a line as tokens, with their positions.
-use Prim.Native.Nat.{ℕ, suc, _+_}
+use Prim.Native.Nat.{ℕ, _+_}
 use mathlib.Core.Bool.{Bool, true, false, cond, not, _&&_}
 use mathlib.Core.List.{List, [], _∷_}
 use lib.Dec.{eqb}
-use lib.ListN.{length, take, drop}
-use Rattle.text.specs.Bytes.{frontOf, isSpace, isLineFeed}
+use lib.ListN.{length, getD, drop}
+use Rattle.text.specs.Bytes.{frontOf, isSpace, isLineFeed, isCarriageReturn}
 
 -- a line: where its content starts, its content, and where the next line starts (behind the last line, the end of the file)
 pub record TextLine : Type 0 where
@@ -16,9 +16,22 @@ pub record TextLine : Type 0 where
 abbrev pub lineEnd : TextLine → ℕ
 lineEnd l = l .start + length (l .bytes)
 
--- the line that begins with the first of the bytes s, which stands at `at`: "Lines end at LF or at the end of the file"
+-- the length of the terminator that the bytes s begin with, 0 for none: "Lines end at LF", and "One CR directly before an LF now belongs to the line's end"
+unfoldable pub terminatorLength : List ℕ → ℕ
+terminatorLength s = cond (isLineFeed (getD s 0 0)) 1 (cond (isCarriageReturn (getD s 0 0) && isLineFeed (getD s 1 0)) 2 0)
+
+-- the content of the line that begins with the first of the bytes s: up to a terminator, "or .. the end of the file"
+unfoldable pub contentOf : List ℕ → List ℕ
+contentOf [] = []
+contentOf (b ∷ s) = let more = b ∷ contentOf s in cond (eqb (terminatorLength (b ∷ s)) 0) more []
+
+-- the length of that line, with its terminator
+unfoldable pub lineLength : List ℕ → ℕ
+lineLength s = let n = length (contentOf s) in n + terminatorLength (drop n s)
+
+-- that line; its first byte stands at `at`
 unfoldable pub lineOf : ℕ → List ℕ → TextLine
-lineOf at s = let bytes = frontOf (λ b. not (isLineFeed b)) s in record { start = at; bytes = bytes; next = at + length (take (suc (length bytes)) s) }
+lineOf at s = record { start = at; bytes = contentOf s; next = at + lineLength s }
 
 -- the lines that begin in the bytes s, which stand at `at`: one at the first byte, if `begins` says so, and one behind each LF
 unfoldable pub linesFrom : Bool → ℕ → List ℕ → List TextLine

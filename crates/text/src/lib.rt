@@ -1,5 +1,6 @@
 // Bytes, lines, tokens, names and numbers: what constraint files and answers share.
 // A piece of text is a prefix of its file and a start, so that places are places of the file.
+pub mod claims;
 pub mod compare;
 pub mod numbers;
 pub mod scan;

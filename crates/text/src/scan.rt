@@ -9,7 +9,7 @@ ghost use Prim.Native.Nat.{_+_, _^_, _≤_, _<_};
 ghost use lib.ListN.{length, drop};
 ghost use Rattle.refusal.specs.Lists.{every};
 ghost use Rattle.text.specs.Bytes.{isSpace, isDigit, isLetter, isNameByte, isPrinting, isAllowed};
-ghost use Rattle.text.specs.Lines.{lineOf, tokensFrom, leads as leadsBy};
+ghost use Rattle.text.specs.Lines.{terminatorLength, lineOf, tokensFrom, leads as leadsBy};
 ghost use Rattle.text.specs.Spelling.{isName};
 ghost use Rattle.text.specs.declared.Class.the-variants.{Space, NameByte, Printing};
 ghost use Rattle.text.specs.Scan.{isOf, past, stopDigit, stopDigitsAt, foundLine, endsToken, tokensBy, Within};
@@ -198,7 +198,26 @@ pub fn all(text: &[u8], at: usize, class: Class) -> bool
     scan(text, at, class) == text.len()
 }
 
-// The line from `at` on. LF is not allowed in it, so that one scan finds its end and a byte that is not allowed.
+// The length of the terminator at `at`: LF, or CR LF.
+fn terminator_length(file: &[u8], at: usize) -> usize
+    requires { ⌜ at < length (now file) ⌝ }
+    ensures { λ r. ⌜ r ≡ terminatorLength (drop at (now (file .entry))) ⌝ }
+{
+    if file[at] == b'\n' {
+        return 1;
+    }
+    let next = at + 1;
+    if next == file.len() {
+        return 0;
+    }
+    if (file[at] == b'\r') & (file[next] == b'\n') {
+        2
+    } else {
+        0
+    }
+}
+
+// The line from `at` on. Its terminator is not allowed in it, so that one scan finds its end and a byte that is not allowed.
 pub fn find_line(file: &[u8], at: usize) -> LineFound
     requires { ⌜ at ≤ length (now file) ⌝ }
     ensures { λ r. ⌜ r ≡ foundLine (lineOf at (drop at (now (file .entry)))) ⌝ }
@@ -207,10 +226,11 @@ pub fn find_line(file: &[u8], at: usize) -> LineFound
     if file.len() <= stop {
         return LineFound::Ends(stop, stop);
     }
-    if file[stop] == b'\n' {
-        return LineFound::Ends(stop, stop + 1);
+    let next = stop + terminator_length(file, stop);
+    if next == stop {
+        return LineFound::Faulty(stop);
     }
-    LineFound::Faulty(stop)
+    LineFound::Ends(stop, next)
 }
 
 // The first token of a line from `at` on.
