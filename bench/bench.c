@@ -1,5 +1,5 @@
 /* Times the library's check, change and cleaning against the plain ones, compiled at -O2 and at -O3, on files
-   made here. Every file is satisfied. */
+   made here, with LF line ends and for the check with CR LF too. Every file is satisfied. */
 
 #define _POSIX_C_SOURCE 199309L
 
@@ -351,47 +351,53 @@ static long enough_repetitions(check *checker, const struct files *files)
 
 struct measurement {
     check *checker;
+    const struct files *files;
     long repetitions;
     double best; /* seconds for one call */
 };
 
-static void measure(struct measurement *of, const struct files *files)
+static void measure(struct measurement *of)
 {
-    double seconds = seconds_for(of->checker, files, of->repetitions) / (double)of->repetitions;
+    double seconds = seconds_for(of->checker, of->files, of->repetitions) / (double)of->repetitions;
     if (of->best == 0 || seconds < of->best)
         of->best = seconds;
 }
 
 static struct measurement measurement_of(check *checker, const struct files *files)
 {
-    return (struct measurement){checker, enough_repetitions(checker, files), 0};
+    return (struct measurement){checker, files, enough_repetitions(checker, files), 0};
 }
 
 /* They take turns, so that all meet the same state of the machine. */
-static void take_turns(struct measurement *checkers, size_t count, const struct files *files)
+static void take_turns(struct measurement *checkers, size_t count)
 {
     for (int round = 0; round < ROUNDS; round++)
         for (size_t i = 0; i < count; i++)
-            measure(&checkers[i], files);
+            measure(&checkers[i]);
+}
+
+static void compare_replies(const struct files *files)
+{
+    uint32_t spear_reply = reply_of(spear_check, files);
+    uint32_t plain_reply = reply_of(plain_check_o2, files);
+    if (spear_reply != plain_reply || plain_reply != 0) {
+        printf(" replies %" PRIu32 " and %" PRIu32 "\n", spear_reply, plain_reply);
+        exit(EXIT_FAILURE);
+    }
 }
 
 static void report(const struct input *input)
 {
     static struct files files;
     make_files(&files, input);
-    uint32_t spear_reply = reply_of(spear_check, &files);
-    uint32_t plain_reply = reply_of(plain_check_o2, &files);
     printf("%-26s", input->name);
-    if (spear_reply != plain_reply || plain_reply != 0) {
-        printf(" replies %" PRIu32 " and %" PRIu32 "\n", spear_reply, plain_reply);
-        exit(EXIT_FAILURE);
-    }
+    compare_replies(&files);
     struct measurement by[] = {
         measurement_of(spear_check, &files),
         measurement_of(plain_check_o2, &files),
         measurement_of(plain_check_o3, &files),
     };
-    take_turns(by, sizeof by / sizeof *by, &files);
+    take_turns(by, sizeof by / sizeof *by);
     size_t file = files.constraints.length, answer = files.answer.length;
     printf(" %7zu %7zu %9.3f %9.3f %9.3f %7.2f %7.2f", file, answer, 1e6 * by[0].best,
            1e6 * by[1].best, 1e6 * by[2].best, by[0].best / by[1].best, by[0].best / by[2].best);
@@ -459,7 +465,7 @@ static void report_flips(const struct input *input)
         measurement_of(plain_flip_o2, &files),
         measurement_of(plain_flip_o3, &files),
     };
-    take_turns(by, sizeof by / sizeof *by, &files);
+    take_turns(by, sizeof by / sizeof *by);
     printf("%-26s check %.1f us, flip %.1f us (%.2f of the check), plain flip %.1f and %.1f us "
            "(ratio %.2f and %.2f)\n",
            input->name, 1e6 * by[0].best, 1e6 * by[1].best, by[1].best / by[0].best,
@@ -539,7 +545,7 @@ static void report_cleaning(const char *name, const struct files *files)
         measurement_of(plain_clean_file_o2, files),
         measurement_of(plain_clean_file_o3, files),
     };
-    take_turns(by, sizeof by / sizeof *by, files);
+    take_turns(by, sizeof by / sizeof *by);
     double reading = by[0].best, cleaning = by[1].best, o2 = by[2].best, o3 = by[3].best;
     printf("%-26s %7zu %7zu %9.3f %9.3f %9.3f %9.3f %7.2f %7.2f %7.2f\n", name,
            files->constraints.length, cleaned.length, 1e6 * reading, 1e6 * cleaning, 1e6 * o2,
@@ -618,6 +624,37 @@ static void report_cleanings(const struct input *input)
         report_messy_cleaning(&files);
 }
 
+/* The check of files with CR LF line ends, beside the same files with LF. */
+
+static void put_crs(struct text *ended, const struct text *file)
+{
+    ended->length = 0;
+    for (const char *line = file->bytes; *line; line = strchr(line, '\n') + 1)
+        print(ended, "%.*s\r\n", (int)strcspn(line, "\n"), line);
+}
+
+static void report_line_ends(const struct input *input)
+{
+    static struct files files, ended;
+    make_files(&files, input);
+    put_crs(&ended.constraints, &files.constraints);
+    put_crs(&ended.answer, &files.answer);
+    printf("%-26s", input->name);
+    compare_replies(&ended);
+    struct measurement by[] = {
+        measurement_of(spear_check, &files),    measurement_of(spear_check, &ended),
+        measurement_of(plain_check_o2, &files), measurement_of(plain_check_o2, &ended),
+        measurement_of(plain_check_o3, &files), measurement_of(plain_check_o3, &ended),
+    };
+    size_t count = sizeof by / sizeof *by;
+    take_turns(by, count);
+    printf(" %7zu %7zu", ended.constraints.length, ended.answer.length);
+    for (size_t i = 0; i < count; i += 2)
+        printf(" %9.3f %9.3f %5.2f", 1e6 * by[i].best, 1e6 * by[i + 1].best,
+               by[i + 1].best / by[i].best);
+    printf(" %7.2f %7.2f\n", by[1].best / by[3].best, by[1].best / by[5].best);
+}
+
 int main(void)
 {
     static const struct input inputs[] = {
@@ -640,4 +677,9 @@ int main(void)
            "clean us", "-O2 us", "-O3 us", "to read", "to -O2", "to -O3");
     for (size_t i = 0; i < sizeof inputs / sizeof *inputs; i++)
         report_cleanings(&inputs[i]);
+    printf("%-26s %7s %7s %9s %9s %5s %9s %9s %5s %9s %9s %5s %7s %7s\n", "CR LF line ends", "file B",
+           "answ. B", "spear LF", "CR LF us", "ratio", "-O2 LF", "CR LF us", "ratio", "-O3 LF",
+           "CR LF us", "ratio", "to -O2", "to -O3");
+    for (size_t i = 0; i < sizeof inputs / sizeof *inputs; i++)
+        report_line_ends(&inputs[i]);
 }

@@ -616,6 +616,11 @@ static bool is_blank(struct cursor line)
     return !find_token(&line);
 }
 
+static bool is_cr_lf(const uint8_t *at, const uint8_t *file_end)
+{
+    return file_end - at > 1 && at[0] == '\r' && at[1] == '\n';
+}
+
 static enum refusal read_file(struct problem *problem, const uint8_t *bytes, size_t length,
                               line_reader *read_line)
 {
@@ -626,13 +631,13 @@ static enum refusal read_file(struct problem *problem, const uint8_t *bytes, siz
         const uint8_t *end = start;
         while (end < file_end && is_a(*end, IN_LINE))
             end++;
-        if (end < file_end && *end != '\n')
+        if (end < file_end && *end != '\n' && !is_cr_lf(end, file_end))
             return BYTE_NOT_ALLOWED;
         struct cursor line = {start, end};
         enum refusal refusal = is_blank(line) ? ACCEPTED : read_line(problem, &line);
         if (refusal || end == file_end)
             return refusal;
-        start = end + 1;
+        start = end + (*end == '\r' ? 2 : 1);
     }
 }
 

@@ -1,6 +1,7 @@
 /* The check of an answer against a constraint file, the change of a single
  * value, the clean spelling of a constraint file and the writing of an answer,
- * for C programs.
+ * for C programs. In both kinds of file lines end with LF or CR LF; what is
+ * written ends them with LF.
  *
  * Link target/staticlib/libspear.a, which `rt staticlib spear` makes.
  *
