@@ -10,7 +10,7 @@ use lib.ListN.{length, drop}
 use Rattle.refusal.proofs.ResultLaws.{never}
 use Rattle.refusal.proofs.BoolLaws.{and-true}
 use Rattle.text.specs.Bytes.{frontOf, isSpace, isLineFeed}
-use Rattle.text.specs.Lines.{TextLine, terminatorLength, contentOf, lineLength, lineOf, linesFrom, textLines, Token, tokenOf, tokensFrom, leads}
+use Rattle.text.specs.Lines.{TextLine, terminatorLength, contentOf, lineOf, linesFrom, textLines, Token, tokenOf, tokensFrom, leads}
 use Rattle.text.proofs.ContentLaws.{ends-feed}
 use Rattle.text.proofs.AppendLaws.{tokens-none, tokens-space}
 use Rattle.plain.specs.Says.{leadingLetter, isSkipped, tokensBehind, saidBy, said}
@@ -34,15 +34,12 @@ LinesCut s at = Cut (λ begins. linesWeight (linesFrom begins at s)) (contentOf 
 cut-lines : (s : List ℕ) (at : ℕ) → LinesCut s at
 unfolding linesFrom lineOf contentOf
 cut-lines [] at = (omega arith, omega arith)
-cut-lines (b ∷ s) at = go (isLineFeed b) refl (cut-lines s (at + 1))
+cut-lines (b ∷ s) at = go (isLineFeed b) (eqb (terminatorLength (b ∷ s)) 0) refl refl (cut-lines s (at + 1))
   where
-    goes-on : (t : Bool) → isLineFeed b ≡ false → LinesCut s (at + 1) → Cut (λ begins. linesWeight (cond begins (record { start = at; bytes = cond t (b ∷ contentOf s) []; next = at + lineLength (b ∷ s) } ∷ linesFrom false (at + 1) s) (linesFrom false (at + 1) s))) (cond t (b ∷ contentOf s) []) (b ∷ s)
-    goes-on true e ih = (omega arith, omega arith)
-    goes-on false e ih = (omega arith, omega arith)
-
-    go : (t : Bool) → isLineFeed b ≡ t → LinesCut s (at + 1) → LinesCut (b ∷ s) at
-    go true e ih = rw (e, ends-feed (b ∷ s) e) (omega arith, omega arith)
-    go false e ih = rw e (goes-on (eqb (terminatorLength (b ∷ s)) 0) e ih)
+    go : (t u : Bool) → isLineFeed b ≡ t → eqb (terminatorLength (b ∷ s)) 0 ≡ u → LinesCut s (at + 1) → LinesCut (b ∷ s) at
+    go true u e k ih = rw (e, ends-feed (b ∷ s) e) (omega arith, omega arith)
+    go false true e k ih = rw (e, k) (omega arith, omega arith)
+    go false false e k ih = rw (e, k) (omega arith, omega arith)
 
 -- the tokens of a text
 abbrev TokensCut : List ℕ → ℕ → Type 0

@@ -12,7 +12,7 @@ use Rattle.refusal.specs.Lists.{every}
 use Rattle.refusal.proofs.BoolLaws.{and-true}
 use Rattle.text.specs.Bytes.{frontOf, isSpace, isLineFeed, isAllowed}
 use Rattle.text.specs.Lines.{contentOf, lineLength, lineOf, linesFrom, tokenOf, tokensFrom}
-use Rattle.text.proofs.ContentLaws.{ends-feed, content-none, content-through, content-all}
+use Rattle.text.proofs.ContentLaws.{ends-feed, content-none, content-all, ended-content, ended-length}
 use Rattle.text.proofs.LineLaws.{lines-cons}
 use Rattle.text.proofs.TokenLaws.{tokens-cons}
 
@@ -33,12 +33,12 @@ lines-none at = refl
 
 -- the line of a text whose bytes are allowed, where LF ends it, and the lines behind it
 pub lines-front : (a b : List ℕ) (at : ℕ) → every isAllowed a ≡ true → linesFrom true at (a ++ 10 ∷ b) ≡ record { start = at; bytes = a; next = at + suc (length a) } ∷ linesFrom true (at + suc (length a)) b
-unfolding lineOf lineLength isLineFeed
+unfolding lineOf isLineFeed
 lines-front a b at h =
     let ends = ends-feed (10 ∷ b) refl in
-    let c : contentOf (a ++ 10 ∷ b) ≡ a = content-through a (10 ∷ b) h ∙ rw (content-none (10 ∷ b) (omega (arith, ends))) (append-nil a) in
-    let n : lineLength (a ++ 10 ∷ b) ≡ suc (length a) = rw (c, drop-append-seam a (10 ∷ b), ends) (omega arith) in
-    lines-cons (a ++ 10 ∷ b) at (omega (arith, length-append a (10 ∷ b))) ∙ rw (n, c, ← add-one (length a), drop-append-add a (10 ∷ b) 1)
+    let none = content-none (10 ∷ b) (omega (arith, ends)) in
+    lines-cons (a ++ 10 ∷ b) at (omega (arith, length-append a (10 ∷ b)))
+    ∙ rw (ended-content a (10 ∷ b) h none, ended-length a (10 ∷ b) h none, ends, drop-append-add a (10 ∷ b) 1, add-one (length a))
 
 -- that line, where the file ends it
 pub lines-last : (a : List ℕ) (at : ℕ) → every isAllowed a ≡ true → 0 < length a → linesFrom true at a ≡ lineOf at a ∷ []

@@ -7,7 +7,7 @@ use native.Mathlib.Nat.{add-zero}
 use native.Mathlib.Omega.{arith}
 use lib.Dec.{eqb}
 use lib.ListN.{length, getD, take, drop, length-take, length-drop}
-use lib.Seq.{getD-drop}
+use lib.Seq.{getD-drop, drop-append-seam}
 use borrow.Author.Tests.{ne-eqb}
 use Rattle.refusal.specs.Lists.{every}
 use Rattle.refusal.proofs.BoolLaws.{and-true, and-false}
@@ -127,3 +127,12 @@ length-some (b ∷ s) h = go (terminatorLength (b ∷ s)) refl
 pub length-within : (s : List ℕ) → lineLength s ≤ length s
 unfolding lineLength
 length-within s = let n = length (contentOf s) in omega (arith, content-short s, ends-within (drop n s), length-drop n s)
+
+-- ---- a line of bytes that are allowed, which ends in front of the bytes t
+module _ (r t : List ℕ) (h : every isAllowed r ≡ true) (e : contentOf t ≡ []) where
+  pub ended-content : contentOf (r ++ t) ≡ r
+  ended-content = content-through r t h ∙ rw e (append-nil r)
+
+  pub ended-length : lineLength (r ++ t) ≡ length r + terminatorLength t
+  unfolding lineLength
+  ended-length = rw (ended-content, drop-append-seam r t)

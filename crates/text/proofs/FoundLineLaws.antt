@@ -1,32 +1,30 @@
 -- What is found of a line: by what stands behind its allowed bytes, and where it lies in its file. Assumes nothing.
 use Prim.Native.Nat.{ℕ, suc, _+_, _≤_, _<_}
 use mathlib.Core.Path.{_≡_, refl, ap, sym, _∙_}
-use mathlib.Core.List.{List, [], _∷_, _++_, append-nil}
+use mathlib.Core.List.{List, [], _∷_, _++_}
 use mathlib.Core.Bool.{Bool, true, false, cond}
 use native.Mathlib.Nat.{add-zero, add-assoc}
 use native.Mathlib.Omega.{arith}
 use lib.ListN.{length, getD, take, drop, length-drop, drop-of-length-le, take-append-drop}
-use lib.Seq.{drop-cons, drop-drop, drop-append-seam}
+use lib.Seq.{drop-cons, drop-drop}
 use Rattle.refusal.specs.Lists.{every}
 use Rattle.refusal.proofs.ListLaws.{every-broken}
 use Rattle.refusal.proofs.ResultLaws.{never}
 use Rattle.text.specs.Bytes.{frontOf, isLineFeed, isCarriageReturn, isAllowed}
-use Rattle.text.specs.Lines.{TextLine, lineEnd, terminatorLength, contentOf, lineLength, lineOf}
+use Rattle.text.specs.Lines.{TextLine, lineEnd, terminatorLength, contentOf, lineOf}
 use Rattle.text.specs.declared.LineFound.{LineFound}
 use Rattle.text.specs.declared.LineFound.the-variants.{Ends, Faulty}
 use Rattle.text.specs.Scan.{past, foundLine, lineAt}
 use Rattle.text.proofs.RunLaws.{drop-take, run-take, run-stop, past-fails, every-of-run, scan-place}
 use Rattle.text.proofs.AppendLaws.{run-front}
-use Rattle.text.proofs.ContentLaws.{content-on, content-none, content-take, content-short, content-through, length-some, length-within}
+use Rattle.text.proofs.ContentLaws.{content-on, content-none, content-take, content-short, content-through, length-some, length-within, ended-content, ended-length}
 use Rattle.text.proofs.LineLaws.{lineFrom}
 
 -- ---- the line that begins with the allowed bytes r, which stand at `at`
 module _ (r : List ℕ) (h : every isAllowed r ≡ true) (at : ℕ) where
   found-ends : (t : List ℕ) → contentOf t ≡ [] → foundLine (lineOf at (r ++ t)) ≡ Ends (at + length r) (at + length r + terminatorLength t)
-  unfolding foundLine lineOf lineLength
-  found-ends t e =
-      let c : contentOf (r ++ t) ≡ r = content-through r t h ∙ rw e (append-nil r) in
-      rw (c, h, drop-append-seam r t, add-assoc at (length r) (terminatorLength t))
+  unfolding foundLine lineOf
+  found-ends t e = rw (ended-content r t h e, ended-length r t h e, h, add-assoc at (length r) (terminatorLength t))
 
   found-faulty : (b : ℕ) (t : List ℕ) → isAllowed b ≡ false → terminatorLength (b ∷ t) ≡ 0 → foundLine (lineOf at (r ++ b ∷ t)) ≡ Faulty (at + length r)
   unfolding foundLine lineOf
