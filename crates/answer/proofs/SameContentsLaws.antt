@@ -3,16 +3,18 @@ use Prim.Native.Nat.{ℕ, _≤_}
 use Prim.Native.Char.{code}
 use mathlib.Core.Path.{_≡_, refl, sym, ap, _∙_}
 use mathlib.Core.Bool.{Bool, true, false, cond}
-use mathlib.Core.List.{List, [], flatMap}
+use mathlib.Core.List.{List, []}
 use lib.ListN.{length}
 use Rattle.edition.specs.Edition.{maxFileBytes}
 use Rattle.refusal.proofs.ListLaws.{flatMap-same, map-flatMap}
 use Rattle.text.specs.Lines.{TextLine, textLines, Token, arguments, leads}
-use Rattle.text.specs.Endings.{contents}
+use Rattle.text.specs.Endings.{contents, ContentsDecide}
 use Rattle.text.proofs.TokenLaws.{tokenBytes, arguments-moved}
+use Rattle.text.proofs.EndingLaws.{by-contents}
 use Rattle.constraint.specs.File.{Variable, nameAt}
 use Rattle.constraint.proofs.EachLaws.{each-same}
-use Rattle.answer.specs.Claims.{letterOf, letters, tokensOf, valuesOf, IsSetting, Sets, ContentsDecideAnswers}
+use Rattle.constraint.proofs.AllowedLinesLaws.{allowed-same}
+use Rattle.answer.specs.Claims.{letterOf, letters, tokensOf, valuesOf, IsSetting, Sets, ForAnswers}
 use Rattle.answer.proofs.AcceptsLaws.{accepts-exactly}
 
 -- the tokens of a line that a letter leads
@@ -28,26 +30,22 @@ setting-moved : (xs : List Variable) (t u : Token) → t .bytes ≡ u .bytes →
 setting-moved xs t u e h = record { variable = h .variable; value-digits = h .value-digits; declared = h .declared; numeral = h .numeral; spelt = sym e ∙ h .spelt; value-fits = h .value-fits }
 
 module _ (xs : List Variable) (a b row : List ℕ) (same : contents a ≡ contents b) (short : length b ≤ maxFileBytes) where
-  -- what goes by the lines' bytes alone
-  by-lines : {A : Type 0} {f : TextLine → List A} → ((l m : TextLine) → l .bytes ≡ m .bytes → f l ≡ f m) → flatMap f (textLines a) ≡ flatMap f (textLines b)
-  by-lines moved = flatMap-same (λ l. l .bytes) moved (textLines a) (textLines b) same
-
   letters-same : letters a ≡ letters b
   unfolding letters letterOf
-  letters-same = by-lines (λ l m e. rw e)
+  letters-same = by-contents (λ l m e. rw e) a b same
 
   tokens-same : (letter : ℕ) → tokenBytes (tokensOf letter a) ≡ tokenBytes (tokensOf letter b)
   unfolding tokensOf
-  tokens-same letter = map-flatMap _ _ (textLines a) ∙ by-lines (led-moved letter) ∙ sym (map-flatMap _ _ (textLines b))
+  tokens-same letter = map-flatMap _ _ (textLines a) ∙ by-contents (led-moved letter) a b same ∙ sym (map-flatMap _ _ (textLines b))
 
   values-same : (name : List ℕ) → valuesOf name a ≡ valuesOf name b
   unfolding valuesOf
   values-same name = flatMap-same (λ t. t .bytes) (λ t u e. rw e) (tokensOf (code "v") a) (tokensOf (code "v") b) (tokens-same (code "v"))
 
-  sets-again : Sets xs a row → Sets xs b row
-  sets-again h = record {
+  sets-same : Sets xs a row → Sets xs b row
+  sets-same h = record {
     short = short;
-    allowed = each-same (λ l. l .bytes) (λ l m e p. rw (← e) p) (textLines a) (textLines b) same (h .allowed);
+    allowed = allowed-same a b same (h .allowed);
     more = h .more;
     in-order = sym letters-same ∙ h .in-order;
     says-satisfiable = sym (tokens-same (code "s")) ∙ h .says-satisfiable;
@@ -56,5 +54,5 @@ module _ (xs : List Variable) (a b row : List ℕ) (same : contents a ≡ conten
     once = λ i l. sym (values-same (nameAt xs i)) ∙ h .once i l;
   }
 
-pub contents-decide : ContentsDecideAnswers
-contents-decide e xs sound distinct a b row same short k = accepts-exactly e xs b row sound distinct .1 (sets-again xs a b row same short (accepts-exactly e xs a row sound distinct .0 k))
+pub contents-decide : ForAnswers ContentsDecide
+contents-decide e xs sound distinct a b row same short k = accepts-exactly e xs b row sound distinct .1 (sets-same xs a b row same short (accepts-exactly e xs a row sound distinct .0 k))

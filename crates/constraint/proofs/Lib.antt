@@ -1,5 +1,6 @@
 -- Laws that belong to no one function.
 pub mod EachLaws
+pub mod AllowedLinesLaws
 pub mod VariableLaws
 pub mod NamedLaws
 pub mod TokenLaws

@@ -4,13 +4,13 @@ use mathlib.Core.Path.{_≡_, sym, _∙_}
 use mathlib.Core.List.{List}
 use lib.ListN.{length}
 use Rattle.edition.specs.Edition.{maxFileBytes}
-use Rattle.refusal.proofs.ListLaws.{flatMap-same}
-use Rattle.text.specs.Lines.{TextLine, textLines}
+use Rattle.text.specs.Lines.{TextLine}
 use Rattle.text.specs.Endings.{contents, ContentsDecide}
 use Rattle.text.proofs.TokenLaws.{arguments-moved}
+use Rattle.text.proofs.EndingLaws.{by-contents}
 use Rattle.constraint.specs.File.{File}
 use Rattle.constraint.specs.Read.{readFile}
-use Rattle.constraint.proofs.EachLaws.{each-same}
+use Rattle.constraint.proofs.AllowedLinesLaws.{allowed-same}
 use Rattle.plain.specs.Says.{tokensBehind, saidBy, said, Says}
 use Rattle.plain.proofs.SaysLaws.{reads-exactly}
 
@@ -19,14 +19,14 @@ unfolding saidBy tokensBehind
 said-moved l m e = rw (arguments-moved l m e, e)
 
 module _ (a b : List ℕ) (same : contents a ≡ contents b) (short : length b ≤ maxFileBytes) where
-  says-again : (f : File) → Says a f → Says b f
+  says-same : (f : File) → Says a f → Says b f
   unfolding said
-  says-again f h = record {
+  says-same f h = record {
     short = short;
-    allowed = each-same (λ l. l .bytes) (λ l m e p. rw (← e) p) (textLines a) (textLines b) same (h .allowed);
+    allowed = allowed-same a b same (h .allowed);
     header = h .header;
     others = h .others;
-    in-order = sym (flatMap-same (λ l. l .bytes) said-moved (textLines a) (textLines b) same) ∙ h .in-order;
+    in-order = sym (by-contents said-moved a b same) ∙ h .in-order;
     header-letters = h .header-letters;
     version = h .version;
     expectation = h .expectation;
@@ -40,4 +40,4 @@ module _ (a b : List ℕ) (same : contents a ≡ contents b) (short : length b �
   }
 
 pub contents-decide : ContentsDecide readFile
-contents-decide a b f same short e = reads-exactly b f .1 (says-again a b same short f (reads-exactly a f .0 e))
+contents-decide a b f same short e = reads-exactly b f .1 (says-same a b same short f (reads-exactly a f .0 e))

@@ -18,8 +18,8 @@ use Rattle.tables.specs.Claims.{ContentsDecideChecks}
 use Rattle.tables.proofs.CheckingLaws.{Steps, checking-steps, steps-checking}
 
 module _ (constraint answer constraint' answer' values verdicts : List ℕ) (same : contents constraint ≡ contents constraint') (alike : contents answer ≡ contents answer') (short : length constraint' ≤ maxFileBytes) (brief : length answer' ≤ maxFileBytes) where
-  steps-again : (f : File) (row : List ℕ) → Steps constraint answer (length values) (length verdicts) f row → Steps constraint' answer' (length values) (length verdicts) f row
-  steps-again f row s =
+  steps-same : (f : File) (row : List ℕ) → Steps constraint answer (length values) (length verdicts) f row → Steps constraint' answer' (length values) (length verdicts) f row
+  steps-same f row s =
       let sound = accepted-is-sound constraint f (s .file) in
       record {
         file = file-contents constraint constraint' f same short (s .file);
@@ -28,9 +28,9 @@ module _ (constraint answer constraint' answer' values verdicts : List ℕ) (sam
         verdicts-room = s .verdicts-room;
       }
 
-  checked-again : (r : Result (File × List ℕ)) → checking constraint answer values verdicts ≡ r → (overall : Overall) → checked values verdicts r .reply ≡ Checked overall → checking constraint' answer' values verdicts ≡ r
-  checked-again (accepted (f, row)) e overall q = steps-checking constraint' answer' values verdicts f row (steps-again f row (checking-steps constraint answer values verdicts f row e))
-  checked-again (refused r) e overall q = never (cc q)
+  checked-same : (r : Result (File × List ℕ)) → checking constraint answer values verdicts ≡ r → (overall : Overall) → checked values verdicts r .reply ≡ Checked overall → checking constraint' answer' values verdicts ≡ r
+  checked-same (accepted (f, row)) e overall q = steps-checking constraint' answer' values verdicts f row (steps-same f row (checking-steps constraint answer values verdicts f row e))
+  checked-same (refused r) e overall q = never (cc q)
 
 pub contents-decide : ContentsDecideChecks
-contents-decide constraint answer constraint' answer' values verdicts overall same alike short brief e = ap (checked values verdicts) (checked-again constraint answer constraint' answer' values verdicts same alike short brief (checking constraint answer values verdicts) refl overall e)
+contents-decide constraint answer constraint' answer' values verdicts overall same alike short brief e = ap (checked values verdicts) (checked-same constraint answer constraint' answer' values verdicts same alike short brief (checking constraint answer values verdicts) refl overall e)

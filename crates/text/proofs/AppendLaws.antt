@@ -11,7 +11,7 @@ use borrow.Author.Tests.{not-true}
 use Rattle.refusal.specs.Lists.{every}
 use Rattle.refusal.proofs.BoolLaws.{and-true}
 use Rattle.text.specs.Bytes.{frontOf, isSpace, isLineFeed, isAllowed}
-use Rattle.text.specs.Lines.{contentOf, lineLength, lineOf, linesFrom, tokenOf, tokensFrom}
+use Rattle.text.specs.Lines.{lineLength, lineOf, linesFrom, tokenOf, tokensFrom}
 use Rattle.text.proofs.ContentLaws.{ends-feed, content-none, content-all, ended-content, ended-length}
 use Rattle.text.proofs.LineLaws.{lines-cons}
 use Rattle.text.proofs.TokenLaws.{tokens-cons}
@@ -42,7 +42,7 @@ lines-front a b at h =
 
 -- that line, where the file ends it
 pub lines-last : (a : List ℕ) (at : ℕ) → every isAllowed a ≡ true → 0 < length a → linesFrom true at a ≡ lineOf at a ∷ []
-unfolding lineLength contentOf
+unfolding lineLength
 lines-last a at h some =
     let n : length a ≤ lineLength a = omega (arith, ap length (content-all a h)) in
     lines-cons a at some ∙ rw (drop-of-length-le a n, lines-none)

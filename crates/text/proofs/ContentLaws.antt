@@ -11,8 +11,8 @@ use lib.Seq.{getD-drop, drop-append-seam}
 use borrow.Author.Tests.{ne-eqb}
 use Rattle.refusal.specs.Lists.{every}
 use Rattle.refusal.proofs.BoolLaws.{and-true, and-false}
-use Rattle.refusal.proofs.ResultLaws.{never}
 use Rattle.text.specs.Bytes.{isLineFeed, isCarriageReturn, isAllowed}
+use Rattle.text.proofs.SeenLaws.{passes-not}
 use Rattle.text.specs.Lines.{terminatorLength, contentOf, lineLength}
 
 -- ---- the terminator
@@ -61,16 +61,13 @@ pub ends-other : (b : ℕ) (s : List ℕ) → isLineFeed b ≡ false → isCarri
 ends-other b s e r = ends-not (b ∷ s) e (rw r)
 
 -- bytes that are allowed are neither
-not-allowed : (c : ℕ) → isAllowed c ≡ false → (b : ℕ) → isAllowed b ≡ true → eqb b c ≡ false
-not-allowed c h b e = ne-eqb b c (λ (k : b ≡ c). never (cc (rw k at e, h)))
-
 allowed-not-feed : (b : ℕ) → isAllowed b ≡ true → isLineFeed b ≡ false
 unfolding isLineFeed isAllowed
-allowed-not-feed = not-allowed 10 refl
+allowed-not-feed = passes-not isAllowed 10 refl
 
-allowed-not-return : (b : ℕ) → isAllowed b ≡ true → isCarriageReturn b ≡ false
+pub allowed-not-return : (b : ℕ) → isAllowed b ≡ true → isCarriageReturn b ≡ false
 unfolding isCarriageReturn isAllowed
-allowed-not-return = not-allowed 13 refl
+allowed-not-return = passes-not isAllowed 13 refl
 
 -- ---- the content
 pub content-on : (b : ℕ) (s : List ℕ) → terminatorLength (b ∷ s) ≡ 0 → contentOf (b ∷ s) ≡ b ∷ contentOf s

@@ -2,16 +2,17 @@
 use Prim.Native.Nat.{ℕ, suc, _+_, _≤_}
 use mathlib.Core.Path.{_≡_, refl, ap, sym, _∙_}
 use mathlib.Core.Bool.{Bool, true, false, cond, not}
-use mathlib.Core.List.{List, [], _∷_, map}
+use mathlib.Core.List.{List, [], _∷_, map, flatMap}
 use native.Mathlib.Omega.{arith}
 use lib.ListN.{length, take}
 use borrow.Author.Tests.{not-true}
 use Rattle.refusal.specs.Lists.{every}
 use Rattle.refusal.specs.Result.{Result}
 use Rattle.refusal.proofs.BoolLaws.{and-true}
+use Rattle.refusal.proofs.ListLaws.{flatMap-same}
 use Rattle.text.specs.Bytes.{frontOf, isLineFeed, isCarriageReturn}
-use Rattle.text.specs.Lines.{contentOf, lineLength, lineOf, linesFrom}
-use Rattle.text.specs.Endings.{NoReturn, withReturns, feedLineOf, feedLinesFrom, FeedsEndLines, ReturnsKeepContents, ContentsDecide, ReturnsChangeNothing}
+use Rattle.text.specs.Lines.{TextLine, contentOf, lineLength, lineOf, linesFrom, textLines}
+use Rattle.text.specs.Endings.{NoReturn, withReturns, contents, feedLineOf, feedLinesFrom, FeedsEndLines, ReturnsKeepContents, ContentsDecide, ReturnsChangeNothing}
 use Rattle.text.proofs.ContentLaws.{ends-feed, ends-return, ends-other, content-on, content-none, length-ended, length-on, length-within}
 
 -- a text without CR: its first byte, and the others
@@ -107,6 +108,10 @@ returns-longer (b ∷ s) = go (isLineFeed b) (returns-longer s)
     go : (t : Bool) → length s ≤ length (withReturns s) → suc (length s) ≤ length (cond t (13 ∷ b ∷ withReturns s) (b ∷ withReturns s))
     go true ih = omega arith
     go false ih = omega arith
+
+-- ---- what goes by the contents of the lines
+pub by-contents : {A : Type 0} {f : TextLine → List A} → ((l m : TextLine) → l .bytes ≡ m .bytes → f l ≡ f m) → (a b : List ℕ) → contents a ≡ contents b → flatMap f (textLines a) ≡ flatMap f (textLines b)
+by-contents moved a b same = flatMap-same (λ l. l .bytes) moved (textLines a) (textLines b) same
 
 pub returns-change-nothing : {A : Type 0} (read : List ℕ → Result A) → ContentsDecide read → ReturnsChangeNothing read
 returns-change-nothing read decides bytes x none short =

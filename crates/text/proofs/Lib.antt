@@ -2,6 +2,7 @@
 pub mod RunLaws
 pub mod ScanLaws
 pub mod StopLaws
+pub mod SeenLaws
 pub mod ContentLaws
 pub mod EndingLaws
 pub mod LineLaws
@@ -11,6 +12,5 @@ pub mod NameLaws
 pub mod AppendLaws
 pub mod FoundLineLaws
 pub mod ReadingLaws
-pub mod SeenLaws
 pub mod TypeLaws
 pub mod FirstByteLaws

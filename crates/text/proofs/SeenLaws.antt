@@ -67,13 +67,12 @@ name-bytes (b ∷ s) e = let q = and-true (isLetter b) (every isNameByte s) e in
 pub name-seen : (s : List ℕ) → isName s ≡ true → every isSeen s ≡ true
 name-seen s e = every-weaken isNameByte isSeen byte-seen s (name-bytes s e)
 
--- bytes that pass a test have no c, which does not pass it
+-- a byte that passes a test is not c, which does not pass it; and bytes that pass it have no c
+pub passes-not : (p : ℕ → Bool) (c : ℕ) → p c ≡ false → (b : ℕ) → p b ≡ true → eqb b c ≡ false
+passes-not p c f b h = ne-eqb b c (λ (e : b ≡ c). never (cc (sym h ∙ ap p e ∙ f)))
+
 without : (p : ℕ → Bool) (c : ℕ) → p c ≡ false → (s : List ℕ) → every p s ≡ true → every (λ b. not (eqb b c)) s ≡ true
-without p c f = every-weaken p (λ b. not (eqb b c)) λ b h. go b h (eqb b c) refl
-  where
-    go : (b : ℕ) → p b ≡ true → (t : Bool) → eqb b c ≡ t → not t ≡ true
-    go b h true e = never (cc (sym h ∙ ap p (eqb-true b c e) ∙ f))
-    go b h false e = refl
+without p c f = every-weaken p (λ b. not (eqb b c)) λ b h. rw (passes-not p c f b h)
 
 pub digits-without : (c : ℕ) → isDigit c ≡ false → (s : List ℕ) → every isDigit s ≡ true → every (λ b. not (eqb b c)) s ≡ true
 digits-without = without isDigit

@@ -53,7 +53,7 @@ pub tokens-cons : (s : List ℕ) (at b : ℕ) → isSpace b ≡ false → tokens
 unfolding tokensFrom
 tokens-cons s at b e = rw e (ap (λ (l : List Token). tokenOf at (b ∷ s) ∷ l) (rw e at (tokens-rest (b ∷ s) at)))
 
--- the bytes of tokens: the first of them and those behind it, and no token
+-- the bytes of tokens
 abbrev pub tokenBytes : List Token → List (List ℕ)
 tokenBytes = map (λ t. t .bytes)
 
@@ -110,6 +110,7 @@ module _ (line : List ℕ) (i b : ℕ) (hb : b ≡ past (isOf Space) line i) whe
         let m = past-more solid line b h s in
         (omega (arith, past-ge (isOf Space) line i), omega (arith, past-ge solid line (b + 1), stopped), omega (arith, past-le solid line b (omega arith), stopped), rw (he, ← run-part (isOf Solid) line b (omega arith)) (every-of-run (isOf Solid) (drop b line)))
 
+-- the first of them and those behind it, and no token
 pub first-token : (ts : List Token) (w : List ℕ) (ws : List (List ℕ)) → tokenBytes ts ≡ w ∷ ws → (t : Token) × (rest : List Token) × (ts ≡ t ∷ rest) × (t .bytes ≡ w) × (tokenBytes rest ≡ ws)
 first-token [] w ws e = absurd (nil≢cons e)
 first-token (t ∷ ts) w ws e = (t, ts, refl, head-eq-of-cons-eq e, tail-eq-of-cons-eq e)

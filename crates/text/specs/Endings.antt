@@ -1,11 +1,11 @@
--- Files that end their lines with CR LF, and files without CR.
+-- What is claimed of files that end their lines with CR LF, of files without CR, and of the readers of both.
 use Prim.Native.Nat.{ℕ, suc, _+_, _≤_}
 use Prim.Native.Char.{code}
 use mathlib.Core.Path.{_≡_}
 use mathlib.Core.Logic.{_↔_}
 use mathlib.Core.Bool.{Bool, true, cond, not}
 use mathlib.Core.List.{List, [], _∷_, map}
-use lib.ListN.{length, take}
+use lib.ListN.{length, getD, take}
 use Rattle.edition.specs.Edition.{maxFileBytes}
 use Rattle.refusal.specs.Lists.{every}
 use Rattle.refusal.specs.Result.{Result, accepted}
@@ -41,10 +41,14 @@ FeedsEndLines = (bytes : List ℕ) → NoReturn bytes → textLines bytes ≡ fe
 abbrev pub ReturnsKeepContents : Type 0
 ReturnsKeepContents = (bytes : List ℕ) → NoReturn bytes → contents bytes ≡ contents (withReturns bytes)
 
--- what a reader takes a file for is decided by the contents of its lines, however they end
+-- what a reader accepts, it takes for the same as any file, not too long, whose lines have the same contents, however they end
 abbrev pub ContentsDecide : {A : Type 0} → (List ℕ → Result A) → Type 0
 ContentsDecide {A} read = (a b : List ℕ) (x : A) → contents a ≡ contents b → length b ≤ maxFileBytes → read a ≡ accepted x → read b ≡ accepted x
 
--- so a file without CR, and the same file with a CR put in front of every LF, are taken for the same
+-- so a file without CR is taken for the same as with a CR put in front of every LF, unless that makes it too long
 abbrev pub ReturnsChangeNothing : {A : Type 0} → (List ℕ → Result A) → Type 0
 ReturnsChangeNothing {A} read = (bytes : List ℕ) (x : A) → NoReturn bytes → length (withReturns bytes) ≤ maxFileBytes → (read bytes ≡ accepted x) ↔ (read (withReturns bytes) ≡ accepted x)
+
+-- "any other CR stays refused": in a file that a reader accepts, LF stands directly behind each CR
+abbrev pub NoOtherReturn : {A : Type 0} → (List ℕ → Result A) → Type 0
+NoOtherReturn {A} read = (bytes : List ℕ) (x : A) → read bytes ≡ accepted x → (i : ℕ) → isCarriageReturn (getD bytes i 0) ≡ true → isLineFeed (getD bytes (suc i) 0) ≡ true

@@ -12,7 +12,7 @@ pub record TextLine : Type 0 where
   pub bytes : List ℕ
   pub next : ℕ
 
--- where its content ends
+-- where its content ends: "The position of a line's end is the CR's", if it has one
 abbrev pub lineEnd : TextLine → ℕ
 lineEnd l = l .start + length (l .bytes)
 
