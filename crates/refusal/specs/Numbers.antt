@@ -96,3 +96,7 @@ noSuchVariable = 23
 -- "a held value doesn't fit, or a verdict above 2"
 abbrev pub heldDoesNotFit : ℕ
 heldDoesNotFit = 24
+
+-- "for any start, or the end, that is missing, falls or passes the room, or any listed line number, other variables' too, that is 0, too large or not above the one before it in its list"
+abbrev pub wrongIndex : ℕ
+wrongIndex = 25

@@ -10,6 +10,8 @@ pub enum Subject {
     Verdicts,
     Output,
     Call,
+    Starts,
+    Lists,
 }
 
 pub struct Refusal {
@@ -66,6 +68,8 @@ impl Refusal {
     pub const NO_SUCH_VARIABLE: u8 = 23;
 
     pub const HELD_DOES_NOT_FIT: u8 = 24;
+
+    pub const WRONG_INDEX: u8 = 25;
 }
 
 // A word of a report: the first `len` of `bytes`, with spaces behind it.
@@ -102,6 +106,14 @@ impl Subject {
             Subject::Call => Label {
                 bytes: *b"call      ",
                 len: 4,
+            },
+            Subject::Starts => Label {
+                bytes: *b"starts    ",
+                len: 6,
+            },
+            Subject::Lists => Label {
+                bytes: *b"lists     ",
+                len: 5,
             },
         }
     }

@@ -8,7 +8,7 @@ use lib.Dec.{eqb}
 use lib.ListN.{length}
 use Rattle.refusal.specs.declared.Refusal.{Refusal}
 use Rattle.refusal.specs.declared.Subject.{Subject}
-use Rattle.refusal.specs.declared.Subject.the-variants.{Constraint, Answer, Values, Verdicts, Output, Call}
+use Rattle.refusal.specs.declared.Subject.the-variants.{Constraint, Answer, Values, Verdicts, Output, Call, Starts, Lists}
 use Rattle.refusal.specs.Result.{refusal}
 use Rattle.judge.specs.Judge.{overallNumber}
 use Rattle.judge.specs.declared.Overall.{Overall}
@@ -63,6 +63,8 @@ subjectNumber Values = 2
 subjectNumber Verdicts = 3
 subjectNumber Output = 4
 subjectNumber Call = 5
+subjectNumber Starts = 6
+subjectNumber Lists = 7
 
 abbrev pub packRefusal : Refusal → ℕ
 packRefusal r = refusalWord (r .number) (subjectNumber (r .subject)) (r .position)
@@ -92,7 +94,7 @@ abbrev pub overallIn : ℕ → Overall
 overallIn word = cond (eqb (kindIn word) 0) Satisfied (cond (eqb (kindIn word) 1) (Violated (bitsFrom word 8 16)) (Disregarded (bitsFrom word 8 16)))
 
 abbrev pub subjectIn : ℕ → Subject
-subjectIn n = cond (eqb n 0) Constraint (cond (eqb n 1) Answer (cond (eqb n 2) Values (cond (eqb n 3) Verdicts (cond (eqb n 4) Output Call))))
+subjectIn n = cond (eqb n 0) Constraint (cond (eqb n 1) Answer (cond (eqb n 2) Values (cond (eqb n 3) Verdicts (cond (eqb n 4) Output (cond (eqb n 5) Call (cond (eqb n 6) Starts Lists))))))
 
 abbrev pub refusalIn : ℕ → Refusal
 refusalIn word = refusal (subjectIn (bitsFrom word 16 8)) (bitsFrom word 8 8) (bitsFrom word 24 40)

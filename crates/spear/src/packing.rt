@@ -78,6 +78,8 @@ fn subject_number(subject: Subject) -> u64
         Subject::Verdicts => 3,
         Subject::Output => 4,
         Subject::Call => 5,
+        Subject::Starts => 6,
+        Subject::Lists => 7,
     }
 }
 

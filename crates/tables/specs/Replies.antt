@@ -5,7 +5,7 @@ use mathlib.Core.Bool.{true}
 use mathlib.Core.List.{List, [], _∷_}
 use lib.ListN.{length}
 use Rattle.refusal.specs.declared.Subject.{Subject}
-use Rattle.refusal.specs.declared.Subject.the-variants.{Constraint, Answer, Values, Verdicts, Output, Call}
+use Rattle.refusal.specs.declared.Subject.the-variants.{Constraint, Answer, Values, Verdicts, Output, Call, Starts, Lists}
 use Rattle.refusal.specs.Numbers.{tooShort}
 use Rattle.refusal.specs.Lists.{isOneOf}
 use Rattle.refusal.specs.Result.{accepted}
@@ -26,6 +26,8 @@ numbersOf Values = tooShort ∷ []
 numbersOf Verdicts = tooShort ∷ []
 numbersOf Output = []
 numbersOf Call = []
+numbersOf Starts = []
+numbersOf Lists = []
 
 -- a line, from 1, of the file that a constraint file says
 pub record LineOfFile (constraint : List ℕ) (n : ℕ) : Type 0 where
