@@ -1,5 +1,5 @@
-/* Times the library's check, change and cleaning against the plain ones, compiled at -O2 and at -O3, on files
-   made here, with LF line ends and for the check with CR LF too. Every file is satisfied. */
+/* Times the library's check, change, cleaning and indexing against the plain ones, compiled at -O2 and at -O3, on
+   files made here, with LF line ends and for the check with CR LF too. Every file is satisfied. */
 
 #define _POSIX_C_SOURCE 199309L
 
@@ -14,6 +14,7 @@
 #include <time.h>
 
 enum { FILE_BYTES = 65536, VARIABLES = 256, LINES = 1024, GROUP = 8, OPERANDS = 3, ROUNDS = 15 };
+enum { STARTS = VARIABLES + 1, LISTED = LINES * (1 + OPERANDS) }; /* of an index, at most */
 static const double MEASUREMENT_SECONDS = 0.1;
 
 static void fail(const char *why)
@@ -313,11 +314,13 @@ static void make_files(struct files *files, const struct input *input)
 typedef uint32_t check(const uint8_t *, size_t, const uint8_t *, size_t);
 typedef uint32_t change(const uint8_t *, size_t, uint64_t *, uint8_t *, size_t, uint64_t);
 typedef ptrdiff_t clean(const uint8_t *, size_t, uint8_t *, size_t);
+typedef ptrdiff_t build(const uint8_t *, size_t, uint32_t *, size_t, uint32_t *, size_t);
 
 /* plain.h's functions: the Makefile compiles plain.c twice, and renames them. */
 check plain_check_o2, plain_check_o3;
 change plain_change_o2, plain_change_o3;
 clean plain_clean_o2, plain_clean_o3;
+build plain_index_o2, plain_index_o3;
 
 static double now(void)
 {
@@ -655,6 +658,128 @@ static void report_line_ends(const struct input *input)
     printf(" %7.2f %7.2f\n", by[1].best / by[3].best, by[1].best / by[5].best);
 }
 
+/* Indexes, built into tables with room for any. */
+
+struct index {
+    uint32_t starts[STARTS], lists[LISTED];
+    size_t listed;
+};
+
+static struct index built; /* by the last building */
+
+static uint32_t index_file(const uint8_t *constraints, size_t constraints_len,
+                           const uint8_t *answer, size_t answer_len)
+{
+    (void)answer, (void)answer_len;
+    uint64_t word = spear_index(constraints, constraints_len, built.starts, STARTS, built.lists,
+                                LISTED);
+    built.listed = SPEAR_LENGTH(word);
+    return SPEAR_KIND(word) != SPEAR_KIND_DONE;
+}
+
+static uint32_t plain_index_file(build *builder, const uint8_t *constraints, size_t constraints_len)
+{
+    ptrdiff_t listed = builder(constraints, constraints_len, built.starts, STARTS, built.lists,
+                               LISTED);
+    built.listed = (size_t)listed;
+    return listed < 0;
+}
+
+static uint32_t plain_index_file_o2(const uint8_t *constraints, size_t constraints_len,
+                                    const uint8_t *answer, size_t answer_len)
+{
+    (void)answer, (void)answer_len;
+    return plain_index_file(plain_index_o2, constraints, constraints_len);
+}
+
+static uint32_t plain_index_file_o3(const uint8_t *constraints, size_t constraints_len,
+                                    const uint8_t *answer, size_t answer_len)
+{
+    (void)answer, (void)answer_len;
+    return plain_index_file(plain_index_o3, constraints, constraints_len);
+}
+
+static struct index built_by(check *builder, const struct files *files)
+{
+    memset(built.starts, 0xff, sizeof built.starts);
+    memset(built.lists, 0xff, sizeof built.lists);
+    if (reply_of(builder, files) != 0)
+        fail("an index isn't built");
+    return built;
+}
+
+/* All must leave the same in the tables, behind the index too. */
+static void compare_indexes(const struct files *files)
+{
+    static struct index by_spear, by_plain;
+    by_spear = built_by(index_file, files);
+    by_plain = built_by(plain_index_file_o2, files);
+    if (by_spear.listed != by_plain.listed ||
+        memcmp(by_spear.starts, by_plain.starts, sizeof by_spear.starts) != 0 ||
+        memcmp(by_spear.lists, by_plain.lists, sizeof by_spear.lists) != 0)
+        fail("the indexes differ");
+}
+
+static void report_indexing(const struct input *input)
+{
+    static struct files files;
+    make_files(&files, input);
+    compare_indexes(&files);
+    struct measurement by[] = {
+        measurement_of(read_file, &files),
+        measurement_of(index_file, &files),
+        measurement_of(plain_index_file_o2, &files),
+        measurement_of(plain_index_file_o3, &files),
+    };
+    take_turns(by, sizeof by / sizeof *by);
+    double reading = by[0].best, indexing = by[1].best, o2 = by[2].best, o3 = by[3].best;
+    printf("%-26s %7zu %7zu %9.3f %9.3f %9.3f %9.3f %7.2f %7.2f %7.2f\n", input->name,
+           files.constraints.length, built.listed, 1e6 * reading, 1e6 * indexing, 1e6 * o2, 1e6 * o3,
+           indexing / reading, indexing / o2, indexing / o3);
+}
+
+/* Flips through the file's own index, beside flips without it. */
+
+static uint32_t flip_through(const uint8_t *constraints, size_t constraints_len,
+                             const uint8_t *answer, size_t answer_len)
+{
+    (void)answer, (void)answer_len;
+    uint64_t word = spear_change_through(constraints, constraints_len, values, VARIABLES, verdicts,
+                                         LINES, built.starts, STARTS, built.lists, LISTED, 0,
+                                         values[0] ^ 1);
+    return SPEAR_KIND(word) == SPEAR_KIND_REFUSED;
+}
+
+/* There by the one and back by the other must leave the verdicts as the check did, in either order. */
+static void compare_flips_through(const struct files *files)
+{
+    static uint8_t before[LINES];
+    memcpy(before, verdicts, sizeof before);
+    check *const flips[] = {flip, flip_through, flip_through, flip};
+    for (size_t i = 0; i < sizeof flips / sizeof *flips; i++) {
+        if (reply_of(flips[i], files) != 0)
+            fail("a flip is refused");
+        if (i % 2 == 1 && memcmp(before, verdicts, sizeof before) != 0)
+            fail("the flips differ");
+    }
+}
+
+static void report_flips_through(const struct input *input)
+{
+    static struct files files;
+    make_files(&files, input);
+    if (reply_of(check_tables, &files) != 0 || reply_of(index_file, &files) != 0)
+        fail("a file isn't checked and indexed");
+    compare_flips_through(&files);
+    struct measurement by[] = {
+        measurement_of(flip, &files),
+        measurement_of(flip_through, &files),
+    };
+    take_turns(by, sizeof by / sizeof *by);
+    printf("%-26s %7zu %7" PRIu32 " %9.3f %9.3f %7.2f\n", input->name, built.listed, built.starts[1],
+           1e6 * by[0].best, 1e6 * by[1].best, by[1].best / by[0].best);
+}
+
 int main(void)
 {
     static const struct input inputs[] = {
@@ -682,4 +807,13 @@ int main(void)
            "CR LF us", "ratio", "to -O2", "to -O3");
     for (size_t i = 0; i < sizeof inputs / sizeof *inputs; i++)
         report_line_ends(&inputs[i]);
+    printf("%-26s %7s %7s %9s %9s %9s %9s %7s %7s %7s\n", "indexing", "file B", "listed", "read us",
+           "index us", "-O2 us", "-O3 us", "to read", "to -O2", "to -O3");
+    for (size_t i = 0; i < sizeof inputs / sizeof *inputs; i++)
+        report_indexing(&inputs[i]);
+    printf("%-26s %7s %7s %9s %9s %7s\n", "flips through the index", "listed", "of it", "flip us",
+           "so us", "ratio");
+    for (size_t i = 0; i < sizeof inputs / sizeof *inputs; i++)
+        if (inputs[i].variable_count > 0)
+            report_flips_through(&inputs[i]);
 }

@@ -1,4 +1,4 @@
-/* A plain checker and cleaner of SPEAR files: the yardstick for speed and replies. */
+/* A plain checker, cleaner and indexer of SPEAR files: the yardstick for speed and replies. */
 
 #include "plain.h"
 
@@ -856,4 +856,75 @@ ptrdiff_t plain_clean(const uint8_t *constraints, size_t constraints_len, uint8_
     if (!has_room)
         memcpy(output, spare, length);
     return (ptrdiff_t)length;
+}
+
+/* The index. */
+
+struct index {
+    uint32_t last[VARIABLES]; /* the line that was last counted or listed for each variable */
+    uint32_t next[VARIABLES]; /* how many lines name it; then where the next one is listed */
+};
+
+/* Whether a line names a variable, and has not named it before. */
+static bool is_first(struct index *index, int variable, uint32_t line)
+{
+    if (variable == CONSTANT || index->last[variable] == line)
+        return false;
+    index->last[variable] = line;
+    return true;
+}
+
+static void count_lines(struct index *index, const struct problem *problem)
+{
+    for (uint32_t i = 1; i <= problem->line_count; i++) {
+        const struct line *line = &problem->lines[i - 1];
+        if (is_first(index, line->output.variable, i))
+            index->next[line->output.variable]++;
+        for (int k = 0; k < operand_counts[line->operator]; k++)
+            if (is_first(index, line->operands[k].variable, i))
+                index->next[line->operands[k].variable]++;
+    }
+}
+
+/* Turns the counts into where the lists start, and gives the end of the last. */
+static uint32_t find_starts(struct index *index, uint32_t variable_count)
+{
+    uint32_t end = 0;
+    for (uint32_t i = 0; i < variable_count; i++) {
+        uint32_t count = index->next[i];
+        index->next[i] = end;
+        end += count;
+    }
+    return end;
+}
+
+static void list_lines(struct index *index, const struct problem *problem, uint32_t *lists)
+{
+    memset(index->last, 0, sizeof index->last);
+    for (uint32_t i = 1; i <= problem->line_count; i++) {
+        const struct line *line = &problem->lines[i - 1];
+        if (is_first(index, line->output.variable, i))
+            lists[index->next[line->output.variable]++] = i;
+        for (int k = 0; k < operand_counts[line->operator]; k++)
+            if (is_first(index, line->operands[k].variable, i))
+                lists[index->next[line->operands[k].variable]++] = i;
+    }
+}
+
+ptrdiff_t plain_index(const uint8_t *constraints, size_t constraints_len, uint32_t *starts,
+                      size_t starts_len, uint32_t *lists, size_t lists_len)
+{
+    struct problem problem;
+    struct index index = {0};
+    memset(&problem, 0, offsetof(struct problem, variables));
+    if (read_constraints(&problem, constraints, constraints_len) != ACCEPTED)
+        return -1;
+    count_lines(&index, &problem);
+    uint32_t end = find_starts(&index, problem.variable_count);
+    if (starts_len <= problem.variable_count || lists_len < end)
+        return -1;
+    memcpy(starts, index.next, problem.variable_count * sizeof *starts);
+    starts[problem.variable_count] = end;
+    list_lines(&index, &problem, lists);
+    return end;
 }

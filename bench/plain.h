@@ -18,4 +18,10 @@ uint32_t plain_change(const uint8_t *constraints, size_t constraints_len, uint64
 ptrdiff_t plain_clean(const uint8_t *constraints, size_t constraints_len, uint8_t *output,
                       size_t output_len);
 
+/* Builds the index of a constraint file: where each variable's list starts, with the end of the last, and
+   the lists, the numbers of the lines that name the variable. Gives how many lines are listed; or -1 where
+   the file is refused or a table too short, and then both tables are as they were. */
+ptrdiff_t plain_index(const uint8_t *constraints, size_t constraints_len, uint32_t *starts,
+                      size_t starts_len, uint32_t *lists, size_t lists_len);
+
 #endif

@@ -1,16 +1,16 @@
 /* The check of an answer against a constraint file, the change of a single
- * value, the clean spelling of a constraint file and the writing of an answer,
- * for C programs. In both kinds of file lines end with LF or CR LF; what is
- * written ends them with LF.
+ * value, the index of the lines that name a variable, the clean spelling of a
+ * constraint file and the writing of an answer, for C programs. In both kinds
+ * of file lines end with LF or CR LF; what is written ends them with LF.
  *
  * Link target/staticlib/libspear.a, which `rt staticlib spear` makes.
  *
  * Nothing is asked of what a call is lent: any bytes, any numbers, any lengths.
  * A pointer may be null only where its length is 0. A range that a call writes
- * (values, verdicts, output) must not overlap any other range of the same call:
- * what happens then is outside what is proved. The calls keep no state, so
- * threads may make them at the same time. Each needs some 50 KB of stack,
- * spear_clean some 110 KB.
+ * (values, verdicts, output, the tables of an index that is built) must not
+ * overlap any other range of the same call: what happens then is outside what
+ * is proved. The calls keep no state, so threads may make them at the same
+ * time. Each needs some 50 KB of stack, spear_clean some 110 KB.
  */
 #ifndef SPEAR_H
 #define SPEAR_H
@@ -57,6 +57,36 @@ uint64_t spear_change(const uint8_t *constraints, size_t constraints_len,
                       uint8_t *verdicts, size_t verdicts_len,
                       size_t variable, uint64_t value);
 
+/* Builds the index of a constraint file: which lines name a variable. Fills two
+ * tables of the caller's: `starts`, for each variable where its list starts in
+ * the other table, from 0, and then where the last list ends; and `lists`, for
+ * each variable the numbers of the lines that name it, from 1, ascending and
+ * each once. There are at most 257 starts and 4096 lines listed. Both tables
+ * may be longer; nothing behind the entries in use changes, and a refusal
+ * changes nothing: 21 of the table that is too short. Gives a word.
+ */
+uint64_t spear_index(const uint8_t *constraints, size_t constraints_len,
+                     uint32_t *starts, size_t starts_len,
+                     uint32_t *lists, size_t lists_len);
+
+/* The change through an index: renews, and counts as named, just the lines that
+ * are listed for the variable. Through the file's own index, as spear_index
+ * builds it, it gives and leaves what spear_change does. Any other index that
+ * fits the file is taken as it is: lists may leave lines out and have others,
+ * the first may start behind 0, a list may be empty, and both tables may be
+ * longer. Besides what spear_change is refused for, and behind it, 25 of the
+ * starts where there are fewer than variables plus one, or one of these is
+ * below the one before it or above lists_len; else 25 of the lists where a
+ * number in any variable's list is 0, above the count of lines, or not above
+ * the one before it. Gives a word.
+ */
+uint64_t spear_change_through(const uint8_t *constraints, size_t constraints_len,
+                              uint64_t *values, size_t values_len,
+                              uint8_t *verdicts, size_t verdicts_len,
+                              const uint32_t *starts, size_t starts_len,
+                              const uint32_t *lists, size_t lists_len,
+                              size_t variable, uint64_t value);
+
 /* Writes the clean spelling of a constraint file: `v 1.0`, the `e` line if there
  * is one, one `d` line, the `c` and `p` lines; one space between tokens,
  * constants reduced and without leading zeros, one LF between lines and none at
@@ -78,22 +108,25 @@ uint64_t spear_write(const uint8_t *constraints, size_t constraints_len,
 
 /* The parts of a word. Its kind is SPEAR_SATISFIED, SPEAR_VIOLATED or
  * SPEAR_DISREGARDED of a check or a change, SPEAR_KIND_DONE of a text that is
- * written, or SPEAR_KIND_REFUSED.
+ * written or an index that is built, or SPEAR_KIND_REFUSED.
  */
 #define SPEAR_KIND(word) ((uint32_t)((word) & 0xff))
 #define SPEAR_KIND_REFUSED 3u
 #define SPEAR_KIND_DONE 4u
 
 /* Of a verdict: the first line that decides it, from 1, and 0 where all hold.
- * Of a change also: how many lines name the variable, how many verdicts became
- * different, and in how many bits the old and the new value differ.
+ * Of a change also: how many lines name the variable, or the index lists for
+ * it, how many verdicts became different, and in how many bits the old and the
+ * new value differ.
  */
 #define SPEAR_LINE(word) ((uint32_t)((word) >> 8 & 0xffff))
 #define SPEAR_NAMED(word) ((uint32_t)((word) >> 24 & 0xffff))
 #define SPEAR_ALTERED(word) ((uint32_t)((word) >> 40 & 0xffff))
 #define SPEAR_BITS(word) ((uint32_t)((word) >> 56))
 
-/* Of a text that is written: its length in bytes. */
+/* Of a text that is written: its length in bytes. Of an index that is built: how
+ * many lines are listed in all.
+ */
 #define SPEAR_LENGTH(word) ((uint64_t)(word) >> 8)
 
 /* Of a refusal: its number, what it speaks of, and the position there. */
@@ -107,6 +140,8 @@ uint64_t spear_write(const uint8_t *constraints, size_t constraints_len,
 #define SPEAR_OF_VERDICTS 3u
 #define SPEAR_OF_OUTPUT 4u
 #define SPEAR_OF_CALL 5u
+#define SPEAR_OF_STARTS 6u
+#define SPEAR_OF_LISTS 7u
 
 #ifdef __cplusplus
 }

@@ -1,14 +1,21 @@
 #!/usr/bin/env python3
-"""Writes runs of single-value changes, each after a check, to FOLDER/stdin, and what checks.py and changes.py
-answer to FOLDER/stdout. Every run of this program writes the same.
+"""Writes runs of single-value changes, each after a check, to FOLDER/stdin, and what checks.py, changes.py and
+indexes.py answer to FOLDER/stdout. Every run of this program writes the same.
 
 usage: python3 tools/change_cases.py FOLDER
 
 A run starts with a line of 38 bytes: `r` and four numbers of eight hexadecimal digits, the lengths of the
-constraint file and of the answer and the entries of the value and verdict tables. Both files follow, then a
-line of 54 bytes for each change: `c`, the variable and the value in sixteen hexadecimal digits, and how many
-values and verdicts are lent in eight. A line of `e` and spaces, as long, ends the run.
-The reply is a line for the check, a line for each change, and both tables after the run.
+constraint file and of the answer and the entries of the value and verdict tables. Both files follow, then
+commands: lines of 54 bytes with a letter, two numbers of sixteen hexadecimal digits and two of eight.
+  c  a change: the variable, the value, and how many values and verdicts are lent
+  t  the same through the index that is lent
+  n  lends an index from now on: the third and the fourth number are how many starts and lists
+  b  builds the file's index into what is lent
+  s  stores the second number at the place, from 0, that the first one says in the starts; l in the lists,
+  v  in the values, w in the verdicts
+A line of `e` and spaces, as long, ends the run.
+The reply is a line for the check, a line for each change and each building, with the starts and the lists that
+are lent behind it, and the values and the verdicts after the run; then the starts and the lists, if any are lent.
 """
 import sys
 from collections import Counter
@@ -19,18 +26,15 @@ sys.dont_write_bytecode = True  # no __pycache__ in the repository
 import answer_cases
 import answers
 import changes
-import checks
 import constraints
+import index_runs
+import indexes
 from answer_cases import (
     MOST,
-    MOST_BYTES,
     MOST_ENTRIES,
-    Instance,
     any_answer,
     any_fitting,
-    any_value,
     are_comparable,
-    constant,
     is_mixable,
     is_short,
     moved_answer,
@@ -39,228 +43,30 @@ from answer_cases import (
     respelled,
 )
 from answers import Refusal
-from changes import Changed, Model
-from check_cases import LENT_VERDICT, MOST_VERDICTS, Case, lengths_around, nearly
-from checks import Checked
+from change_runs import (
+    FAULTS,
+    UNSET,
+    Run,
+    accepted,
+    any_filled,
+    any_fit,
+    blind,
+    filled,
+    make,
+    possible_faults,
+    results,
+    sized,
+    unchecked,
+    wander,
+    widths,
+)
+from changes import Changed
+from check_cases import MOST_VERDICTS, lengths_around, nearly
 from constraint_cases import MIXED, crs, mixed, with_crs
 from constraints import unmarked
+from indexes import Indexed
 from operator_vectors import edges
-from operators import DIVISIONS, OPERATORS, Word
-
-END = b"e".ljust(53) + b"\n"
-
-
-# A run in the corpus, and its replies.
-
-
-def table_line(table):
-    return "".join(f"{entry} " for entry in table) + "\n"
-
-
-class Run:
-    """A check on the whole tables, then the changes made so far. After an accepted check the model goes along."""
-
-    def __init__(self, constraint, answer, values, verdicts):
-        assert max(len(constraint), len(answer)) <= MOST_BYTES
-        assert values <= MOST_ENTRIES and verdicts <= MOST_VERDICTS
-        self.start = Case(constraint, answer, values, verdicts)
-        self.constraint, self.answer = constraint, answer
-        self.file = answers.read_constraint(constraint)
-        self.values = [1000003 * (i + 1) for i in range(values)]
-        self.verdicts = [LENT_VERDICT] * verdicts
-        lengths = len(constraint), len(answer), values, verdicts
-        self.calls = [answer_cases.header("r", *lengths) + constraint + answer]
-        self.checked = checks.check(constraint, answer, values, verdicts)
-        self.numbers, self.found = [], []  # what each change is told, and answers
-        self.model = None
-        if isinstance(self.checked, Checked):
-            self.values[: len(self.checked.values)] = self.checked.values
-            self.verdicts[: len(self.checked.verdicts)] = self.checked.verdicts
-            self.model = Model(self.file, self.checked.values)
-
-    def change(self, variable, value, values_lent=None, verdicts_lent=None):
-        """Makes the change on the first entries lent of the tables, by default on the whole."""
-        values, verdicts = self.values[:values_lent], self.verdicts[:verdicts_lent]
-        lengths = len(values), len(verdicts)
-        found = changes.change(self.constraint, values, verdicts, variable, value)
-        self.assert_answer(found, self.model and self.model.change(variable, value, *lengths), values, verdicts)
-        self.values[: lengths[0]], self.verdicts[: lengths[1]] = values, verdicts
-        self.numbers.append((variable, value, values_lent, verdicts_lent))
-        self.calls.append("c {:016x} {:016x} {:08x} {:08x}\n".format(variable, value, *lengths).encode())
-        self.found.append(found)
-        return found
-
-    def expect(self, said, *numbers):
-        """Makes a change that must answer this."""
-        found = self.change(*numbers)
-        assert found == said, (found, said)
-
-    def assert_answer(self, found, modelled, values, verdicts):
-        """That a change answers as the model does, and leaves the tables where it is refused."""
-        assert not self.model or found == modelled, (found, modelled)
-        before = self.values[: len(values)], self.verdicts[: len(verdicts)]
-        assert isinstance(found, Changed) or (values, verdicts) == before, found
-
-    def assert_fresh(self):
-        """That the tables are the model's row and its verdicts, as a fresh check puts them there."""
-        row = self.model.row
-        fresh = checks.check(self.constraint, answers.spelled(self.file, row), len(row), len(self.file.lines))
-        assert (fresh.values, fresh.verdicts) == (row, self.model.verdicts())
-        spare = range(len(row) + 1, len(self.values) + 1)
-        assert self.values == row + [1000003 * i for i in spare]
-        assert self.verdicts == fresh.verdicts + [LENT_VERDICT] * (len(self.verdicts) - len(fresh.verdicts))
-
-    def stdin(self):
-        return b"".join(self.calls) + END
-
-    def stdout(self):
-        said = checks.outcome(self.checked) + "".join(map(changes.outcome, self.found))
-        return (said + table_line(self.values) + table_line(self.verdicts)).encode()
-
-
-def any_spare():
-    return random.choice((0, 0, 1, 7, 40))
-
-
-def sized(constraint, answer):
-    """A run whose tables are as long as the entries in use, or longer."""
-    file = answers.read_constraint(constraint)
-    used = (4, 4) if isinstance(file, Refusal) else (len(file.variables), len(file.lines))
-    return Run(constraint, answer, *(count + any_spare() for count in used))
-
-
-def accepted(constraint, values):
-    """A run after an accepted check that sets these values."""
-    run = sized(constraint, any_answer(constraint, values))
-    assert run.model, run.checked
-    return run
-
-
-# A change's numbers, for a constraint file that is read.
-
-
-def widths(run):
-    return list(run.file.variables.values())
-
-
-def naming(run, variable):
-    """The lines that name the variable."""
-    name = list(run.file.variables)[variable]
-    return [line for line in run.file.lines if changes.is_named(line, name)]
-
-
-def results(run, variable):
-    """The results of the lines that have the variable as their output."""
-    lines = [line for line in run.file.lines if line.output == run.model.declared(variable)]
-    found = [answers.result(run.file, line, run.model.row) for line in lines]
-    return [result for result in found if result is not None]
-
-
-def mending(run, variable, values):
-    """The one of the values under which most lines hold."""
-
-    def held(value):
-        row = [value if i == variable else other for i, other in enumerate(run.model.row)]
-        return sum(answers.verdict(run.file, line, row) == 1 for line in naming(run, variable))
-
-    return max(values, key=held)
-
-
-def fitting(run, variable):
-    """A value that fits: any, or of some values the one under which most lines hold."""
-    width, old = widths(run)[variable], run.values[variable]
-    values = [0, old + 1, old - 1, ~old, any_value(width), any_value(width), random.choice(run.values)]
-    if run.model and random.random() < 0.5:
-        values += [run.checked.values[variable], *results(run, variable)]
-        return mending(run, variable, [value % 2**width for value in values])
-    return random.choice(values) % 2**width
-
-
-def any_fit(run, variable):
-    """A value that fits, seldom the old one."""
-    value, old, width = fitting(run, variable), run.values[variable], widths(run)[variable]
-    is_kept = value != old or random.random() < 0.2
-    return value if is_kept else old ^ 1 << random.randrange(width)
-
-
-def any_unfit(run, variable):
-    """A value that doesn't fit a variable of less than 64 bits, often with the old value in its low bits."""
-    most = 2 ** widths(run)[variable]
-    old = run.values[variable] % most
-    high = random.randrange(most, 2**64) // most * most
-    return random.choice((most, most + 1, most + old, high + old, MOST, random.randrange(most, 2**64)))
-
-
-def any_missing(run):
-    """No variable's number, often with such a number in its low bits."""
-    count = len(run.file.variables)
-    low = random.randrange(max(count, 1))
-    far = (256 + low, 2**16 + low, 2**32 + low, 2**63 + low, 2**63, MOST, random.randrange(256, 2**64))
-    return random.choice((count, count, count + 1, *far))
-
-
-def any_lent(used, whole, is_short):
-    """How many entries are lent of a table."""
-    if is_short:
-        return random.choice((used - 1, used - 1, random.randrange(used), 0))
-    return random.choice((used, whole, whole, random.randint(used, whole)))
-
-
-# The faults of a change in the order in which they refuse it.
-FAULTS = {
-    "values": Refusal(21, "values", 0),
-    "verdicts": Refusal(21, "verdicts", 0),
-    "number": Refusal(23, "call", 0),
-    "value": Refusal(18, "call", 0),
-}
-
-
-def narrow_variables(run):
-    return [i for i, width in enumerate(widths(run)) if width < 64]
-
-
-def possible_faults(run):
-    """The faults that a change in the run can have."""
-    can = {"values": run.file.variables, "verdicts": run.file.lines, "number": True, "value": narrow_variables(run)}
-    return [fault for fault in FAULTS if can[fault]]
-
-
-def any_numbers(run, faults):
-    """A variable and a value with these faults and no other."""
-    if "number" in faults:
-        return any_missing(run), random.choice((MOST, 2**63)) if "value" in faults else random.choice((0, 1))
-    if "value" in faults:
-        variable = random.choice(narrow_variables(run))
-        return variable, any_unfit(run, variable)
-    variable = random.randrange(len(run.file.variables))
-    return variable, any_fit(run, variable)
-
-
-def make(run, faults):
-    """A change with these faults, of which the first refuses it."""
-    lengths = (len(run.file.variables), len(run.values)), (len(run.file.lines), len(run.verdicts))
-    lent = [any_lent(*length, table in faults) for length, table in zip(lengths, ("values", "verdicts"))]
-    found = run.change(*any_numbers(run, faults), *lent)
-    first = next((FAULTS[fault] for fault in FAULTS if fault in faults), None)
-    assert not first or found == first, (faults, found)
-    return found
-
-
-def wander(run, count):
-    """Random changes, some with faults. Without variables each has the number's."""
-    for _ in range(count):
-        faults = [fault for fault in possible_faults(run) if random.random() < 0.08]
-        make(run, faults if run.file.variables else [*faults, "number"])
-    return run
-
-
-def blind(run, count):
-    """Random changes, whatever the constraint file and the tables are."""
-    for _ in range(count):
-        numbers = random.choice((0, 0, 1, MOST)), random.choice((0, 1, 7, MOST))
-        lengths = len(run.values), len(run.verdicts)
-        run.change(*numbers, *(random.choice((0, length, length, random.randint(0, length))) for length in lengths))
-    return run
+from operators import DIVISIONS, OPERATORS
 
 
 # 01's case whole.
@@ -412,16 +218,6 @@ def short_whole():
 # The order of the refusals: every combination of faults, on tables that an accepted check left, and on tables
 # with their first contents, so that 24 comes last.
 
-UNSET = (b"", b"s UNKNOWN\n", b"s SATISFIABLE", b"s SATISFIABLE\nv x0=1 x0=1", b"v x0=1\ns SATISFIABLE\n")
-
-
-def unchecked(constraint):
-    """A run after a check that the answer refuses."""
-    run = sized(constraint, random.choice(UNSET))
-    assert run.checked.subject == "answer", run.checked
-    return run
-
-
 def every_fault(run, times, last):
     """Every combination of faults; without any, the change must answer the last."""
     possible = possible_faults(run)
@@ -522,40 +318,6 @@ def sizes():
 # Random files.
 
 
-class Crowd(Instance):
-    """Lines that hold, over at most so many variables."""
-
-    def __init__(self, most):
-        super().__init__()
-        self.most = most
-
-    def new(self, word):
-        """A new variable that holds the word, or a constant."""
-        return self.declare(word) if len(self.held) < self.most else constant(word)
-
-    def operand(self, width):
-        name = self.find(lambda word: word.width == width)
-        if name and random.random() < 0.7:
-            return name, self.held[name]
-        word = Word(width, any_value(width))
-        return self.new(word), word
-
-    def output(self, word):
-        return self.find(lambda held: held == word) or self.new(word)
-
-
-def filled(ops, lines, most):
-    """A file of so many lines with operators of these and at most so many variables, and values that satisfy it."""
-    crowd = Crowd(most)
-    while len(crowd.lines) < lines:
-        crowd.add(random.choice(ops))
-    return crowd.spelling()
-
-
-def any_filled():
-    return filled(list(OPERATORS), random.choice((1, 2, 4, 8, 15, 30)), random.choice((2, 5, 9, 30)))
-
-
 def each_operator():
     for op in OPERATORS:
         yield wander(accepted(*filled([op], random.randint(2, 6), 6)), 110)
@@ -622,16 +384,17 @@ def repeated(runs):
 GROUPS = [whole_case, named_lines, decided_lines, divisors, edge_widths, bit_counts, lent_tables, short_whole]
 GROUPS += [orders, first_contents, bare_files, faulty_constraints, sizes, each_operator, random_runs, mutated_runs]
 
-# Every refusal that a change can give: by subject, the numbers.
+# Every refusal that a change or a building can give: by subject, the numbers.
 REFUSALS = {"constraint": {*range(1, 16)}, "values": {21, 24}, "verdicts": {21, 24}, "call": {18, 23}}
-MOST_STDIN = 2000000
+REFUSALS |= {"starts": {21, 25}, "lists": {21, 25}}
+MOST_STDIN = 2200000
 
 
 def kind(found):
     """An answer without its counts and positions."""
     if isinstance(found, Refusal):
         return "refused {} {}".format(*found)
-    return found.overall.split()[0]
+    return "indexed" if isinstance(found, Indexed) else found.overall.split()[0]
 
 
 def assert_complete(runs):
@@ -640,7 +403,7 @@ def assert_complete(runs):
     refusals = {(answer.subject, answer.number) for answer in found if isinstance(answer, Refusal)}
     assert refusals == {(subject, number) for subject, numbers in REFUSALS.items() for number in numbers}
     assert {answer.bits for answer in found if isinstance(answer, Changed)} == {*range(65)}
-    assert sum(max(len(run.constraint), len(run.answer)) > 5000 for run in runs) <= 6
+    assert sum(max(len(run.constraint), len(run.answer)) > 5000 for run in runs) <= 8
 
 
 def show(title, counter):
@@ -650,9 +413,11 @@ def show(title, counter):
 
 
 def main(folder):
+    indexes.self_test()
     changes.self_test()
     runs = [run for group in GROUPS for run in group()]
     runs += [*faulty_with_crs(), *sizes_with_crs(), *repeated(runs)]
+    runs += [run for group in index_runs.GROUPS for run in group()]
     runs = list({run.stdin(): run for run in runs}.values())  # a file without LFs gets no CRs
     for run in runs:
         if run.model:
@@ -663,9 +428,9 @@ def main(folder):
     Path(folder, "stdin").write_bytes(stdin)
     Path(folder, "stdout").write_bytes(b"".join(run.stdout() for run in runs))
     show("runs, by the check's answer", Counter(kind(run.checked) for run in runs))
-    show("changes, by answer", Counter(kind(answer) for run in runs for answer in run.found))
-    after = Counter("checked" if run.model else "unchecked" for run in runs for _ in run.found)
-    show("changes, by whether the check was accepted", after)
+    show("changes and buildings, by answer", Counter(kind(answer) for run in runs for answer in run.found))
+    after = Counter("with the model" if run.model else "without" for run in runs for _ in run.found)
+    show("the same, by whether the model went along", after)
 
 
 if __name__ == "__main__":

@@ -1,9 +1,10 @@
 #!/usr/bin/env python3
-"""The single-value change and demand 3's plain model, by document 01 and apart from the Rattle code.
+"""The single-value change and demand 3's plain model, by documents 01 and 02 and apart from the Rattle code.
 
-change(constraint, values, verdicts, variable, value) gives the Changed that a change answers which is lent
-these two tables, or its Refusal; accepted, it overwrites the tables in place. Model(file, row) is the plain
-model, which holds a row of values and nothing else. `--self-test` checks both on cases worked out by hand.
+change(constraint, values, verdicts, variable, value, index) gives the Changed that a change answers which is
+lent these two tables and an index, or None, or its Refusal; accepted, it overwrites the tables in place.
+Model(file, row) is the plain model, which holds a row of values and nothing else. `--self-test` checks both on
+cases worked out by hand.
 """
 import sys
 from collections import namedtuple
@@ -11,6 +12,7 @@ from collections import namedtuple
 sys.dont_write_bytecode = True  # no __pycache__ in the repository
 import answers
 import checks
+import indexes
 from answers import WHOLE, Refusal
 from constraints import Variable
 
@@ -54,29 +56,41 @@ def is_named(line, name):
     return any(isinstance(token, Variable) and token.name == name for token in (line.output, *line.operands))
 
 
-def renew(file, values, verdicts, numbers):
-    """Renews the verdicts of the lines of these numbers, and counts those that become different."""
+def unfit_index(file, index):
+    """25 for an index that doesn't fit the file. There may be none."""
+    return indexes.misfit(file, *index) if index else None
+
+
+def concerned(file, variable, index):
+    """The places of the lines that name the variable, or of those that the index lists for it."""
+    if index:
+        return [number - 1 for number in indexes.listed(*index, variable)]
+    name = list(file.variables)[variable]
+    return [i for i, line in enumerate(file.lines) if is_named(line, name)]
+
+
+def renew(file, values, verdicts, places):
+    """Renews the verdicts of the lines at these places, and counts those that become different."""
     altered = 0
-    for i in numbers:
+    for i in places:
         renewed = answers.verdict(file, file.lines[i], values)
         altered += renewed != verdicts[i]
         verdicts[i] = renewed
     return altered
 
 
-def change(constraint, values, verdicts, variable, value):
-    """Refused in this order: constraint file, 21, 23, 18, 24."""
+def change(constraint, values, verdicts, variable, value, index=None):
+    """Refused in this order: constraint file, 21, 23, 18, 24, 25."""
     file = answers.read_constraint(constraint)
     if isinstance(file, Refusal):
         return file
     refusal = short_table(file, values, verdicts) or unfit_number(file, variable, value)
-    refusal = refusal or unfit_entry(file, values, verdicts)
+    refusal = refusal or unfit_entry(file, values, verdicts) or unfit_index(file, index)
     if refusal:
         return refusal
     flipped = values[variable] ^ value
     values[variable] = value
-    name = list(file.variables)[variable]
-    named = [i for i, line in enumerate(file.lines) if is_named(line, name)]
+    named = concerned(file, variable, index)
     altered = renew(file, values, verdicts, named)
     return Changed(answers.overall(verdicts[: len(file.lines)]), len(named), altered, flipped.bit_count())
 
@@ -102,8 +116,8 @@ class Model:
         """The row's verdicts, worked out anew for every line."""
         return answers.all_verdicts(self.file, self.row)
 
-    def refusal(self, variable, value, lent):
-        """Why a change is refused that is lent tables of these lengths, or None."""
+    def refusal(self, variable, value, lent, index):
+        """Why a change is refused that is lent tables of these lengths and an index, or None."""
         in_use = {"values": len(self.row), "verdicts": len(self.file.lines)}
         short = [table for table in in_use if lent[table] < in_use[table]]
         if short:
@@ -112,14 +126,15 @@ class Model:
             return Refusal(23, "call", 0)
         if value.bit_length() > self.declared(variable).width:
             return Refusal(18, "call", 0)
-        return None
+        return unfit_index(self.file, index)
 
     def declared(self, variable):
         return Variable(*list(self.file.variables.items())[variable])
 
-    def change(self, variable, value, values_lent, verdicts_lent):
-        """What the change answers: by the file, the rows before and after and their verdicts."""
-        refusal = self.refusal(variable, value, {"values": values_lent, "verdicts": verdicts_lent})
+    def change(self, variable, value, values_lent, verdicts_lent, index=None):
+        """What the change answers: by the file, the rows before and after and their verdicts. An index is the
+        file's own, or refused."""
+        refusal = self.refusal(variable, value, {"values": values_lent, "verdicts": verdicts_lent}, index)
         if refusal:
             return refusal
         old, before = self.row[variable], self.verdicts()
@@ -132,7 +147,8 @@ class Model:
 
 
 # Cases worked out by hand. Before each run of changes: a file, the tables lent, and the row of a model that goes
-# along, or None. A change is a variable, a value, what is answered, and both tables after it.
+# along, or None. A change is a variable, a value, what is answered, and both tables after it. The runs in THROUGH
+# have an index too, through which every change goes.
 
 DIVIDED = b"v 1.0\nd q:i8 a:i8 b:i8 x:i64\nc q /u a b\np ule a a\np = b 0:i8\n"
 ROW = [3, 7, 2, 5]
@@ -163,17 +179,34 @@ BY_HAND = [
     (DIVIDED, ROW, [2, 0, 0], None, [(0, 3, ("violated 2", 1, 1, 0), ROW, [1, 0, 0])]),
     (b"", [], [], None, [(0, 0, (4, "constraint", 0), [], [])]),
 ]  # fmt: skip
+OWN = [0, 1, 3, 5, 5], [1, 1, 2, 1, 3]
+THROUGH = [
+    (OWN, DIVIDED, ROW, [1, 1, 0], ROW, [
+        (2, 0, ("disregarded 1", 2, 2, 1), [3, 7, 0, 5], [2, 1, 1]),
+        (3, 4, ("disregarded 1", 0, 0, 1), [3, 7, 0, 4], [2, 1, 1]),
+        (0, 256, (18, "call", 0), [3, 7, 0, 4], [2, 1, 1]),
+    ]),
+    (([1, 1, 3, 4, 6], [9, 2, 3, 3, 1, 3]), DIVIDED, ROW, [1, 1, 0], None, [
+        (0, 4, ("violated 3", 0, 0, 3), [4, 7, 2, 5], [1, 1, 0]),
+        (2, 0, ("satisfied", 1, 1, 1), [4, 7, 0, 5], [1, 1, 1]),
+        (1, 6, ("satisfied", 2, 0, 1), [4, 6, 0, 5], [1, 1, 1]),
+        (3, 5, ("disregarded 1", 2, 1, 0), [4, 6, 0, 5], [2, 1, 1]),
+    ]),
+    ((OWN[0][:4], OWN[1]), DIVIDED, ROW, [1, 1, 0], ROW, [(0, 3, (25, "starts", 0), ROW, [1, 1, 0])]),
+    ((OWN[0], [1, 1, 2, 1, 4]), DIVIDED, ROW, [1, 1, 0], ROW, [(0, 3, (25, "lists", 0), ROW, [1, 1, 0])]),
+    (([], []), DIVIDED, ROW, [1, 3, 9], None, [(0, 3, (24, "verdicts", 1), ROW, [1, 3, 9])]),
+]  # fmt: skip
 
 
 def self_test():
-    for constraint, values, verdicts, row, run in BY_HAND:
+    for index, constraint, values, verdicts, row, run in [(None, *case) for case in BY_HAND] + THROUGH:
         model = row and Model(answers.read_constraint(constraint), row)
         values, verdicts = list(values), list(verdicts)
         for variable, value, said, *tables in run:
-            found = change(constraint, values, verdicts, variable, value)
+            found = change(constraint, values, verdicts, variable, value, index)
             assert (found, [values, verdicts]) == (said, tables), (constraint, variable, value, found)
             if model:
-                found = model.change(variable, value, len(values), len(verdicts))
+                found = model.change(variable, value, len(values), len(verdicts), index)
                 assert found == said, (constraint, variable, value, found)
 
 
@@ -181,4 +214,4 @@ if __name__ == "__main__":
     if sys.argv[1:] != ["--self-test"]:
         sys.exit(f"usage: {sys.argv[0]} --self-test")
     self_test()
-    print(f"{sum(len(run) for *_, run in BY_HAND)} changes are as worked out by hand")
+    print(f"{sum(len(run) for *_, run in BY_HAND + THROUGH)} changes are as worked out by hand")

@@ -1,46 +1,70 @@
--- A change on a file that is read: refused by its tests, or stored. Assumes nothing.
+-- A change on a file that is read: refused by its tests, or made. Assumes nothing.
 use Prim.Native.Nat.{ℕ, _<_, _^_}
-use mathlib.Core.Path.{_≡_, refl, sym, _∙_}
+use mathlib.Core.Path.{_≡_, refl, sym, ap, _∙_}
 use mathlib.Core.List.{List, _++_}
+use mathlib.Core.Option.{Option, none, some}
 use native.Mathlib.Decide.{ℕ-discrete}
+use native.Mathlib.Numerals.{add-one}
 use native.Mathlib.Omega.{arith}
-use lib.ListN.{length, getD, take, drop, set}
-use lib.Seq.{length-take-le, getD-set-same, getD-set-other, getD-take, take-set-lt}
+use lib.ListN.{length, getD, take, drop, set, take-append-drop}
+use lib.Seq.{length-take-le, getD-set-same, getD-set-other, getD-take, set-append-left, take-set-lt, take-at}
 use Rattle.edition.specs.Word.{wordBits}
 use Rattle.refusal.specs.declared.Refusal.{Refusal}
-use Rattle.refusal.specs.Lists.{howMany}
 use Rattle.refusal.specs.Result.{Result, accepted, refused}
 use Rattle.arithmetic.specs.Bits.{differingBits}
 use Rattle.constraint.specs.File.{Variable, File, widthAt}
 use Rattle.judge.specs.declared.Overall.{Overall}
-use Rattle.judge.specs.Judge.{overallOf}
+use Rattle.judge.specs.Judge.{freshVerdicts, overallOf}
 use Rattle.judge.specs.InUse.{rowInUse}
 use Rattle.judge.specs.Claims.{RowFits}
 use Rattle.judge.proofs.FitLaws.{row-fits}
+use Rattle.judge.proofs.VerdictLaws.{verdicts-length}
+use Rattle.index.specs.Select.{naming}
+use Rattle.index.specs.Index.{Index}
+use Rattle.index.specs.AnyIndex.{concerned}
+use Rattle.index.specs.Internal.{fileOf}
+use Rattle.index.proofs.SelectLaws.{concerned-length}
+use Rattle.index.proofs.ListedLaws.{starts-there, starts-rise, starts-within, listed-fits}
+use Rattle.moves.specs.declared.Renewal.{Renewal}
 use Rattle.moves.specs.declared.ChangeReply.the-variants.{Changed, Refused}
-use Rattle.moves.specs.Change.{names, renewed, differing, numbersFit, changingFor, ChangeOutcome, unchanged, accept, changed, changeFor}
-use Rattle.moves.specs.Gate.{fileOf}
-use Rattle.moves.proofs.GateLaws.{Sized, Passed}
-use Rattle.moves.proofs.RenewLaws.{renewed-front}
+use Rattle.moves.specs.Step.{Tables, tablesOf, renewed, step}
+use Rattle.moves.specs.Gate.{Call, changing, changeFits, entitled, admitted}
+use Rattle.moves.specs.Change.{Outcome, made, changed, changeFor}
+use Rattle.moves.specs.Internal.{Renewed, ListFitting}
+use Rattle.moves.proofs.GateLaws.{Sized, Admitted}
+use Rattle.moves.proofs.RenewLaws.{renewed-length}
 
 -- ---- refused or accepted
-module _ (f : File) (values verdicts : List ℕ) (i v : ℕ) where
-  pub change-refused : (r : Refusal) → refused r ≡ changingFor f values verdicts i v → unchanged values verdicts (Refused r) ≡ changeFor f values verdicts i v
+module _ (f : File) (t : Tables) (c : Call) where
+  pub change-refused : (r : Refusal) → refused r ≡ admitted f t c → _≡_ {A = Outcome} (record { reply = Refused r; tables = t }) (changeFor f t c)
   change-refused r e = rw (← e)
 
-  pub change-accepted : accepted tt ≡ changingFor f values verdicts i v → accept f values verdicts i v ≡ changeFor f values verdicts i v
+  pub change-accepted : accepted tt ≡ admitted f t c → made f t c ≡ changeFor f t c
   change-accepted e = rw (← e)
 
 -- ---- neither version nor expectation matters
-module _ (f : File) (values verdicts : List ℕ) (i v : ℕ) where
-  changed-bare : (r : Result (Unit {0})) → changed (fileOf (f .variables) (f .lines)) values verdicts i v r ≡ changed f values verdicts i v r
-  unfolding accept renewed
-  changed-bare (accepted tt) = refl
-  changed-bare (refused r) = refl
+module _ (f : File) (t : Tables) (i v : ℕ) where
+  changed-bare : (x : Option Index) (r : Result (Unit {0})) → changed (fileOf (f .variables) (f .lines)) t (changing i v x) r ≡ changed f t (changing i v x) r
+  unfolding made step naming
+  changed-bare none (accepted tt) = refl
+  changed-bare (some x) (accepted tt) = refl
+  changed-bare x (refused r) = refl
 
-  pub change-bare : changeFor (fileOf (f .variables) (f .lines)) values verdicts i v ≡ changeFor f values verdicts i v
-  unfolding changingFor numbersFit
-  change-bare = changed-bare (changingFor f values verdicts i v)
+  pub change-bare : (x : Option Index) → changeFor (fileOf (f .variables) (f .lines)) t (changing i v x) ≡ changeFor f t (changing i v x)
+  unfolding admitted entitled changeFits
+  change-bare none = changed-bare none (admitted f t (changing i v none))
+  change-bare (some x) = changed-bare (some x) (admitted f t (changing i v (some x)))
+
+-- ---- the list of the variable in the index fits
+pub list-fitting : (f : File) (t : Tables) (i v : ℕ) (x : Index) (m : ℕ) → length (f .lines) ≡ m → Admitted f t (changing i v (some x)) → ListFitting m x i
+list-fitting f t i v x m e p =
+    let h = p .is-entitled .variable in
+    record {
+      there = rw (add-one i) (starts-there f x i (p .index-fits) h);
+      rises = rw (add-one i) (starts-rise f x i (p .index-fits) h);
+      within = rw (add-one i) (starts-within f x i (p .index-fits) h);
+      fits = rw (← e) (listed-fits f x i (p .index-fits) h);
+    }
 
 -- ---- the row after a change fits
 pub fits-set : (xs : List Variable) (row : List ℕ) (i v : ℕ) → RowFits xs row → i < length row → v < 2 ^ widthAt xs i → RowFits xs (set row i v)
@@ -49,30 +73,42 @@ fits-set xs row i v h p q j = elim (ℕ-discrete j i) [
   | no e ↦ rw (getD-set-other row i j v 0 e) (h j)
 ]
 
-module _ (f : File) (values verdicts : List ℕ) (i v : ℕ) (p : Passed f values verdicts i v) where
-  pub passed-before : RowFits (f .variables) (rowInUse f values)
-  passed-before = row-fits (f .variables) (rowInUse f values) (length-take-le (length (f .variables)) values (p .values-room)) (p .values-fit)
+module _ (f : File) (values verdicts : List ℕ) (i v : ℕ) (x : Option Index) (p : Admitted f (tablesOf values verdicts) (changing i v x)) where
+  row-long : length (rowInUse f values) ≡ length (f .variables)
+  row-long = length-take-le (length (f .variables)) values (p .is-entitled .values-room)
 
-  pub passed-after : RowFits (f .variables) (set (rowInUse f values) i v)
-  passed-after = fits-set (f .variables) (rowInUse f values) i v passed-before (omega (arith, length-take-le (length (f .variables)) values (p .values-room))) (p .value)
+  -- the value is put in in front of what is behind the row
+  pub values-stored : set (rowInUse f values) i v ++ drop (length (f .variables)) values ≡ set values i v
+  values-stored =
+      let k = length (f .variables) in
+      sym (set-append-left (take k values) (drop k values) i v (rw row-long (p .is-entitled .variable))) ∙ ap (λ (l : List ℕ). set l i v) (take-append-drop k values)
+
+  row-after : RowFits (f .variables) (set (rowInUse f values) i v)
+  row-after = fits-set (f .variables) (rowInUse f values) i v (row-fits (f .variables) (rowInUse f values) row-long (p .values-fit)) (rw row-long (p .is-entitled .variable)) (p .is-entitled .value)
 
   -- ---- what an accepted change leaves, of n variables and m lines
   module _ (n m : ℕ) (sized : Sized f n m) where
+    within : i < n
+    within = omega (arith, p .is-entitled .variable, sized .variables)
+
     -- the row in use, once the value is stored
-    pub row-stored : take n (set values i v) ≡ set (rowInUse f values) i v
-    row-stored = rw (sized .variables) (take-set-lt n values i v (omega arith))
+    row-stored : take n (set values i v) ≡ set (rowInUse f values) i v
+    row-stored = rw (sized .variables) (take-set-lt n values i v within)
 
     pub stored-fits : RowFits (f .variables) (take n (set values i v))
-    stored-fits = rw row-stored passed-after
+    stored-fits = rw row-stored row-after
 
     -- the outcome, by what was worked out for it
-    pub accept-is : (o : Overall) (named altered bits : ℕ) (after : List ℕ)
-        → after ≡ renewed f (take n (set values i v)) i (take m verdicts) ++ drop m verdicts
+    pub made-is : (o : Overall) (r : Renewal) (after : List ℕ)
+        → Renewed (concerned f x i) (freshVerdicts f (take n (set values i v))) m verdicts after r
         → o ≡ overallOf (take m after)
-        → named ≡ howMany (names i) (f .lines)
-        → altered ≡ differing (take m verdicts) (renewed f (take n (set values i v)) i (take m verdicts))
-        → bits ≡ differingBits wordBits (getD values i 0) v
-        → _≡_ {A = ChangeOutcome} (record { reply = Changed (record { overall = o; named = named; altered = altered; bits = bits }); values = set values i v; verdicts = after }) (accept f values verdicts i v)
-    unfolding accept
-    accept-is o named altered bits after a b c d e =
-        rw (b, c, d, e, a, renewed-front f (take n (set values i v)) i (take m verdicts) (length-take-le m verdicts (omega arith) ∙ sym (sized .lines)) (drop m verdicts) m (sized .lines), row-stored, sized .variables, sized .lines, getD-take n values i 0 (omega arith))
+        → _≡_ {A = Outcome} (record { reply = Changed (record { overall = o; named = r .named; altered = r .altered; bits = differingBits wordBits (getD values i 0) v }); tables = tablesOf (set values i v) after }) (made f (tablesOf values verdicts) (changing i v x))
+    unfolding made step
+    made-is o r after d e =
+        let row = set (rowInUse f values) i v in
+        let held = take m verdicts in
+        let held-long = length-take-le m verdicts (omega (arith, p .is-entitled .verdicts-room, sized .lines)) in
+        let new = renewed (concerned f x i) (freshVerdicts f row) held in
+        let new-long : length new ≡ m = renewed-length (concerned f x i) (freshVerdicts f row) held (concerned-length f x i ∙ sized .lines ∙ sym held-long) (verdicts-length (f .variables) row (f .lines) ∙ sized .lines ∙ sym held-long) ∙ held-long in
+        let is : after ≡ new ++ drop m verdicts = rw row-stored at (d .made) in
+        rw (e, d .counted, rw row-stored at (d .differed), is, take-at new (drop m verdicts) m new-long, values-stored, sized .lines, getD-take (length (f .variables)) values i 0 (p .is-entitled .variable))

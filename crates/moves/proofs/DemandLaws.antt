@@ -1,10 +1,10 @@
 -- Changes that do nothing, always or but for the first, do not meet demand 3: one switch is flipped up and down again. Assumes nothing.
-use Prim.Native.Nat.{ℕ, suc, _≤_}
+use Prim.Native.Nat.{ℕ, suc}
 use mathlib.Core.Path.{_≡_, refl, sym, _∙_}
 use mathlib.Core.List.{List, [], _∷_}
 use mathlib.Core.Option.{none, some}
 use native.Mathlib.Omega.{arith}
-use lib.ListN.{length, take-append-drop}
+use lib.ListN.{take-append-drop}
 use Rattle.edition.specs.Edition.{edition10, editionNumbered, isWidth}
 use Rattle.refusal.specs.Lists.{every, firstFrom}
 use Rattle.refusal.specs.Result.{accepted}
@@ -21,9 +21,10 @@ use Rattle.judge.specs.declared.Overall.the-variants.{Satisfied}
 use Rattle.judge.specs.Judge.{verdictsOf, firstVerdict, overallOf}
 use Rattle.answer.specs.Read as answer
 use Rattle.tables.specs.Check.{checkingFor, checking}
-use Rattle.moves.specs.Change.{numbersFit}
-use Rattle.moves.specs.Run.{Change, ChangeCall, onFronts, done, call, modelling, modelRow}
-use Rattle.moves.specs.WholeRun.{AcceptedCheck, DoesNothing, NotIdle, NotOnlyFirst}
+use Rattle.moves.specs.Step.{Tables, tablesOf}
+use Rattle.moves.specs.Gate.{changing, changeFits, entitled}
+use Rattle.moves.specs.Run.{Turn, ChangeCall, turnOutcome, outcomes, tablesAfter, modelRow}
+use Rattle.moves.specs.WholeRun.{AcceptedCheck, OfRun, DoesNothing, NotIdle, NotOnlyFirst}
 
 -- ---- a file of one switch, and an answer that leaves it down
 abbrev switch : List ℕ
@@ -43,28 +44,33 @@ down-read : answer.readAnswer (switchFile .variables) switchDown ≡ accepted (0
 unfolding every firstFrom same frontOf isSpace isLineFeed isCarriageReturn isAllowed isDigit isLetter isNameByte terminatorLength contentOf lineLength lineOf linesFrom tokenOf tokensFrom leads isName isNumeral decimalFrom upTo behind readAnyLine readLines readText variableNamed widthAt bitwiseSpellings predicateSpellings arithmeticSpellings shiftAndCastSpellings spellings operatorSpelt answer.solutionOf answer.readWord answer.readSolution answer.settingOf answer.readSetting answer.readSettings answer.readValues answer.answerKind answer.readAnswerAs answer.readAnswerLine answer.allSet answer.readAnswer
 down-read = refl
 
-switch-checked : AcceptedCheck switch switchDown (0 ∷ []) [] switchFile (0 ∷ []) (0 ∷ []) []
+-- the tables before and after the check, and with the switch up
+abbrev switchAt : ℕ → Tables
+switchAt v = tablesOf (v ∷ []) []
+
+switch-checked : AcceptedCheck switch switchDown (switchAt 0) switchFile (0 ∷ []) (switchAt 0)
 unfolding checking checkingFor verdictsOf firstVerdict overallOf firstFrom
 switch-checked = record { file-is-read = switch-read; answer-is-read = down-read; overall = Satisfied; call = rw (switch-read, down-read) }
 
 -- ---- two changes of it, lent the whole tables
-abbrev flip : ℕ → Change
-flip v = record { variable = 0; value = v; valuesLent = 1; verdictsLent = 0 }
+abbrev flip : ℕ → Turn
+flip v = record { call = changing 0 v none; lent = record { values = 1; verdicts = 0 } }
 
--- a call that does nothing, lent the first entries, leaves the whole values
-idle-front : (change : ChangeCall) → DoesNothing change → (constraint values verdicts : List ℕ) (c : Change) → onFronts change constraint values verdicts c .values ≡ values
-idle-front change idle constraint values verdicts c = rw (idle constraint _ _ (c .variable) (c .value) .0) (take-append-drop (c .valuesLent) values)
+flip-of-run : (v : ℕ) → OfRun switchFile (switchAt 0) (flip v)
+flip-of-run v = record { values = omega arith; verdicts = omega arith; index = tt }
+
+-- a call that does nothing, lent the first entries, leaves the whole tables
+idle-turn : (change : ChangeCall) → DoesNothing change → (constraint : List ℕ) (t : Tables) (u : Turn) → turnOutcome change constraint t u .tables ≡ t
+idle-turn change idle constraint t u = rw (idle constraint _ (u .call), take-append-drop (u .lent .values) (t .values), take-append-drop (u .lent .verdicts) (t .verdicts))
 
 -- ---- the second change does nothing, but the model's puts the switch down
 pub not-only-first : NotOnlyFirst
-unfolding modelRow modelling numbersFit widthAt
+unfolding outcomes tablesAfter modelRow entitled changeFits widthAt verdictsOf
 not-only-first calls meets idle =
-    let one = onFronts (calls 0) switch (0 ∷ []) [] (flip 1) in
-    let two = onFronts (calls 1) switch (one .values) (one .verdicts) (flip 0) in
-    let up : one .values ≡ 1 ∷ [] = meets switch switchDown (0 ∷ []) [] switchFile (0 ∷ []) (0 ∷ []) [] (flip 1 ∷ []) (one .reply ∷ []) (one .values) (one .verdicts) switch-checked (call (omega arith) (omega arith) refl done) .values-are in
-    let within : 1 ≤ length (one .values) = rw up (omega arith) in
-    let down : two .values ≡ 0 ∷ [] = meets switch switchDown (0 ∷ []) [] switchFile (0 ∷ []) (0 ∷ []) [] (flip 1 ∷ flip 0 ∷ []) (one .reply ∷ two .reply ∷ []) (two .values) (two .verdicts) switch-checked (call (omega arith) (omega arith) refl (call within (omega arith) refl done)) .values-are in
-    let kept = idle-front (calls 1) (idle 0) switch (one .values) (one .verdicts) (flip 0) in
+    let one = turnOutcome (calls 0) switch (switchAt 0) (flip 1) in
+    let up : one .tables ≡ switchAt 1 = meets switch switchDown (switchAt 0) switchFile (0 ∷ []) (switchAt 0) (flip 1 ∷ []) switch-checked (flip-of-run 1, tt) .tables-are in
+    let down : turnOutcome (calls 1) switch (one .tables) (flip 0) .tables ≡ switchAt 0 = meets switch switchDown (switchAt 0) switchFile (0 ∷ []) (switchAt 0) (flip 1 ∷ flip 0 ∷ []) switch-checked (flip-of-run 1, (flip-of-run 0, tt)) .tables-are in
+    let kept = idle-turn (calls 1) (idle 0) switch (one .tables) (flip 0) in
     never (cc (sym up ∙ sym kept ∙ down))
 
 pub not-idle : NotIdle

@@ -2,8 +2,10 @@
 pub mod RenewLaws
 pub mod GateLaws
 pub mod ChangeLaws
-pub mod NamesLaws
-pub mod TouchLaws
+pub mod FreshLaws
+pub mod ColumnLaws
 pub mod RunLaws
+pub mod TouchLaws
 pub mod WholeLaws
 pub mod DemandLaws
+pub mod ThroughLaws

@@ -1,142 +1,308 @@
--- The verdicts made anew for a variable, one line after the other. Assumes nothing.
-use Prim.Native.Nat.{ℕ, suc, _+_, _≤_, _<_}
+-- The verdicts of selected lines made anew, one line after the other. Assumes nothing.
+use Prim.Native.Nat.{ℕ, zero, suc, _+_, _-_, _≤_, _<_}
 use mathlib.Core.Path.{_≡_, refl, sym, ap, _∙_}
 use mathlib.Core.Bool.{Bool, true, false, cond, not}
-use mathlib.Core.List.{List, [], _∷_, _++_, zipWith}
+use mathlib.Core.List.{List, [], _∷_, _++_, map, zipWith}
 use native.Mathlib.Numerals.{add-one}
 use native.Mathlib.Omega.{arith}
 use lib.Dec.{eqb}
-use lib.ListN.{length, getD, take, drop, set}
-use lib.Seq.{append-snoc, drop-cons, getD-at, length-take-le, set-at, take-at, take-suc}
-use Rattle.refusal.specs.Lists.{howMany}
+use lib.ListN.{length, getD, take, drop, set, replicate, length-map, length-replicate, take-append-drop, List·getD-append}
+use lib.Seq.{length-take-le, set-append-left, take-suc, take-length, take-add, drop-at}
+use borrow.Author.Tests.{eq-eqb}
+use Rattle.refusal.specs.Lists.{howMany, isOneOf}
+use Rattle.refusal.proofs.ResultLaws.{never}
+use Rattle.refusal.proofs.ManyLaws.{one-most}
 use Rattle.constraint.specs.declared.Line.{Line}
-use Rattle.constraint.specs.File.{Variable, File, withLine}
-use Rattle.store.specs.Tables.{tabulate, lineIn, linesIn}
-use Rattle.store.proofs.LineTableLaws.{lines-length, lines-more}
+use Rattle.constraint.specs.File.{Variable, File}
+use Rattle.store.specs.Tables.{lineIn, linesIn}
+use Rattle.store.proofs.TableLaws.{getD-tabulate}
+use Rattle.store.proofs.LineTableLaws.{lines-length}
+use Rattle.judge.specs.Judge.{judge, verdictsOf, freshVerdicts}
+use Rattle.judge.proofs.VerdictLaws.{verdicts-length}
+use Rattle.index.specs.Select.{names, naming, selected}
+use Rattle.index.specs.Index.{Index}
+use Rattle.index.specs.AnyIndex.{listIn, numbered, listFits}
+use Rattle.index.specs.Internal.{fileOf}
+use Rattle.index.proofs.SelectLaws.{numbered-length, numbered-none, numbered-nothing, numbered-more}
+use Rattle.index.proofs.ListedLaws.{list-rises, rising-at, rising-new}
 use Rattle.moves.specs.declared.Renewal.{Renewal}
-use Rattle.moves.specs.Change.{names, remade, renewed, differing}
-use Rattle.moves.specs.Gate.{fileOf, renewalOf, Renewed}
+use Rattle.moves.specs.Step.{renewed, differing}
+use Rattle.moves.specs.Internal.{verdictIn, RenewedIf, Renewed, ListFitting}
 
--- ---- two lists, element by element
-module _ {A B C : Type 0} (f : A → B → C) where
-  zip-length : (xs : List A) (ys : List B) → length ys ≡ length xs → length (zipWith f xs ys) ≡ length xs
-  unfolding zipWith
-  zip-length [] ys h = refl
-  zip-length (x ∷ xs) [] h = let z : ⊥ = omega arith in absurd z
-  zip-length (x ∷ xs) (y ∷ ys) h = ap suc (zip-length xs ys (omega arith))
+-- ---- a table with some entries fresh
+pub renewed-length : (bs : List Bool) (fresh held : List ℕ) → length bs ≡ length held → length fresh ≡ length held → length (renewed bs fresh held) ≡ length held
+unfolding renewed
+renewed-length [] fresh held k l = k
+renewed-length (b ∷ bs) [] held k l = l
+renewed-length (b ∷ bs) (x ∷ fresh) [] k l = refl
+renewed-length (b ∷ bs) (x ∷ fresh) (h ∷ held) k l = ap suc (renewed-length bs fresh held (omega arith) (omega arith))
 
-  -- one element more
-  zip-last : (xs : List A) (ys : List B) (x : A) (y : B) → length ys ≡ length xs → zipWith f (xs ++ (x ∷ [])) (ys ++ (y ∷ [])) ≡ zipWith f xs ys ++ (f x y ∷ [])
-  unfolding zipWith
-  zip-last [] [] x y h = refl
-  zip-last [] (b ∷ ys) x y h = let z : ⊥ = omega arith in absurd z
-  zip-last (a ∷ xs) [] x y h = let z : ⊥ = omega arith in absurd z
-  zip-last (a ∷ xs) (b ∷ ys) x y h = ap (λ (l : List C). f a b ∷ l) (zip-last xs ys x y (omega arith))
+-- an entry that is not selected, and one that is
+pub renewed-other : (bs : List Bool) (fresh held : List ℕ) (j : ℕ) → length bs ≡ length held → length fresh ≡ length held → getD bs j false ≡ false → getD (renewed bs fresh held) j 0 ≡ getD held j 0
+unfolding renewed
+renewed-other [] fresh [] j k l e = refl
+renewed-other [] fresh (h ∷ held) j k l e = let z : ⊥ = omega arith in absurd z
+renewed-other (b ∷ bs) [] [] j k l e = refl
+renewed-other (b ∷ bs) [] (h ∷ held) j k l e = let z : ⊥ = omega arith in absurd z
+renewed-other (b ∷ bs) (x ∷ fresh) [] j k l e = refl
+renewed-other (b ∷ bs) (x ∷ fresh) (h ∷ held) zero k l e = rw e
+renewed-other (b ∷ bs) (x ∷ fresh) (h ∷ held) (suc j) k l e = renewed-other bs fresh held j (omega arith) (omega arith) e
 
--- ---- how many pass, of one element more
-more : (t : Bool) (k n b : ℕ) → n ≡ k + b → cond t (suc n) n ≡ cond t (suc k) k + b
-more true k n b e = omega arith
-more false k n b e = omega arith
+pub renewed-at : (bs : List Bool) (fresh held : List ℕ) (j : ℕ) → length fresh ≡ length held → j < length held → getD bs j false ≡ true → getD (renewed bs fresh held) j 0 ≡ getD fresh j 0
+unfolding renewed
+renewed-at bs fresh [] j l h e = let z : ⊥ = omega arith in absurd z
+renewed-at bs [] (y ∷ held) j l h e = let z : ⊥ = omega arith in absurd z
+renewed-at [] (x ∷ fresh) (y ∷ held) j l h e = never (cc e)
+renewed-at (b ∷ bs) (x ∷ fresh) (y ∷ held) zero l h e = rw e
+renewed-at (b ∷ bs) (x ∷ fresh) (y ∷ held) (suc j) l h e = renewed-at bs fresh held j (omega arith) (omega arith) e
 
-many-last : {A : Type 0} (test : A → Bool) (xs : List A) (x : A) → howMany test (xs ++ (x ∷ [])) ≡ howMany test xs + cond (test x) 1 0
+-- ---- no entry
+renewed-none : (m : ℕ) (fresh held : List ℕ) → length fresh ≡ m → length held ≡ m → renewed (replicate m false) fresh held ≡ held
+unfolding renewed
+renewed-none zero fresh [] k l = refl
+renewed-none zero fresh (h ∷ held) k l = let z : ⊥ = omega arith in absurd z
+renewed-none (suc m) [] held k l = let z : ⊥ = omega arith in absurd z
+renewed-none (suc m) (x ∷ fresh) [] k l = let z : ⊥ = omega arith in absurd z
+renewed-none (suc m) (x ∷ fresh) (h ∷ held) k l = ap (λ (z : List ℕ). h ∷ z) (renewed-none m fresh held (omega arith) (omega arith))
+
+selected-none : (m : ℕ) → selected (replicate m false) ≡ 0
 unfolding howMany
-many-last test [] x = omega arith
-many-last test (y ∷ xs) x = more (test y) (howMany test xs) (howMany test (xs ++ (x ∷ []))) (cond (test x) 1 0) (many-last test xs x)
+selected-none zero = refl
+selected-none (suc m) = selected-none m
 
-one-not : (t : Bool) → _≡_ {A = ℕ} (cond (not t) 1 0) (cond t 0 1)
-one-not true = refl
-one-not false = refl
+differing-none : (held : List ℕ) → differing held held ≡ 0
+unfolding differing howMany zipWith
+differing-none [] = refl
+differing-none (h ∷ held) = rw (eq-eqb h h refl) (differing-none held)
 
-differing-last : (before after : List ℕ) (v w : ℕ) → length after ≡ length before → differing (before ++ (v ∷ [])) (after ++ (w ∷ [])) ≡ differing before after + cond (eqb v w) 0 1
-unfolding differing
-differing-last before after v w h = rw (zip-last eqb before after v w h, ← one-not (eqb v w)) (many-last not (zipWith eqb before after) (eqb v w))
+-- ---- one entry more
+selected-more : (bs : List Bool) (k : ℕ) → k < length bs → getD bs k false ≡ false → selected (set bs k true) ≡ selected bs + 1
+unfolding howMany
+selected-more [] k h e = let z : ⊥ = omega arith in absurd z
+selected-more (b ∷ bs) zero h e = rw e (omega arith)
+selected-more (true ∷ bs) (suc k) h e = omega (arith, selected-more bs k (omega arith) e)
+selected-more (false ∷ bs) (suc k) h e = selected-more bs k (omega arith) e
 
--- ---- the verdicts of a file's lines
-module _ (f : File) (row : List ℕ) (i : ℕ) (before : List ℕ) (h : length before ≡ length (f .lines)) where
-  pub renewed-length : length (renewed f row i before) ≡ length (f .lines)
-  unfolding renewed
-  renewed-length = zip-length (remade (f .variables) row i) (f .lines) before h
+renewed-more : (bs : List Bool) (fresh held : List ℕ) (k : ℕ) → length bs ≡ length held → length fresh ≡ length held → k < length held → renewed (set bs k true) fresh held ≡ set (renewed bs fresh held) k (getD fresh k 0)
+unfolding renewed
+renewed-more [] fresh held k l f h = let z : ⊥ = omega arith in absurd z
+renewed-more (b ∷ bs) [] held k l f h = let z : ⊥ = omega arith in absurd z
+renewed-more (b ∷ bs) (x ∷ fresh) [] k l f h = let z : ⊥ = omega arith in absurd z
+renewed-more (b ∷ bs) (x ∷ fresh) (y ∷ held) zero l f h = refl
+renewed-more (b ∷ bs) (x ∷ fresh) (y ∷ held) (suc k) l f h = ap (λ (z : List ℕ). cond b x y ∷ z) (renewed-more bs fresh held k (omega arith) (omega arith) (omega arith))
 
-  -- they stand in front
-  pub renewed-front : (rest : List ℕ) (m : ℕ) → length (f .lines) ≡ m → take m (renewed f row i before ++ rest) ≡ renewed f row i before
-  renewed-front rest m e = take-at (renewed f row i before) rest m (renewed-length ∙ e)
+-- a place where two tables are alike, and then not
+count-first : (t : Bool) (n : ℕ) → cond (not t) (suc n) n ≡ n + cond t 0 1
+count-first true n = omega arith
+count-first false n = omega arith
 
-  -- with one line more
-  renewed-last : (l : Line) (v : ℕ) → renewed (withLine f l) row i (before ++ (v ∷ [])) ≡ renewed f row i before ++ (remade (f .variables) row i l v ∷ [])
-  unfolding renewed
-  renewed-last l v = zip-last (remade (f .variables) row i) (f .lines) before l v h
+count-later : (t : Bool) (k n b : ℕ) → n ≡ k + b → cond t (suc n) n ≡ cond t (suc k) k + b
+count-later true k n b e = omega arith
+count-later false k n b e = omega arith
 
--- ---- what one line adds to the counts
-one-most : (t : Bool) → cond t 1 0 ≤ 1
-one-most true = omega arith
-one-most false = omega arith
+differing-more : (old new : List ℕ) (k x : ℕ) → length new ≡ length old → k < length old → getD new k 0 ≡ getD old k 0 → differing old (set new k x) ≡ differing old new + cond (eqb (getD old k 0) x) 0 1
+unfolding differing howMany zipWith
+differing-more [] new k x l h e = let z : ⊥ = omega arith in absurd z
+differing-more (a ∷ old) [] k x l h e = let z : ⊥ = omega arith in absurd z
+differing-more (a ∷ old) (b ∷ new) zero x l h e = rw (e, eq-eqb a a refl) (count-first (eqb a x) (howMany not (zipWith eqb old new)))
+differing-more (a ∷ old) (b ∷ new) (suc k) x l h e =
+    count-later (not (eqb a b)) (howMany not (zipWith eqb old new)) (howMany not (zipWith eqb old (set new k x))) (cond (eqb (getD old k 0) x) 0 1) (differing-more old new k x (omega arith) (omega arith) e)
 
-module _ (xs : List Variable) (row : List ℕ) (i : ℕ) (l : Line) (v : ℕ) where
-  pub renewal-most : (r : Renewal) → r ≡ renewalOf xs row i l v → (r .named ≤ 1) × (r .altered ≤ 1)
-  renewal-most r e = (rw e (one-most (names i l)), rw (e, ← one-not (eqb v (remade xs row i l v))) (one-most (not (eqb v (remade xs row i l v)))))
+-- ---- line after line: m entries are in use
+module _ (fresh old : List ℕ) (m : ℕ) (many : length fresh ≡ m) (room : m ≤ length old) where
+  abbrev held : List ℕ
+  held = take m old
 
--- ---- the lines in their table, one after the other
-named-more : (heads bodies : List ℕ) (i k : ℕ) → howMany (names i) (linesIn heads bodies (k + 1)) ≡ howMany (names i) (linesIn heads bodies k) + cond (names i (lineIn heads bodies k)) 1 0
-named-more heads bodies i k = rw (lines-more heads bodies k) (many-last (names i) (linesIn heads bodies k) (lineIn heads bodies k))
+  held-long : length held ≡ m
+  held-long = length-take-le m old room
 
-module _ (xs : List Variable) (heads bodies row : List ℕ) (i : ℕ) (before : List ℕ) where
-  -- the first k lines, their verdicts, and that of line k
-  abbrev fileTo : ℕ → File
-  fileTo k = fileOf xs (linesIn heads bodies k)
+  pub start-renewed : Renewed (replicate m false) fresh m old old (record { named = 0; altered = 0 })
+  start-renewed =
+      let none = renewed-none m fresh held many held-long in
+      record { made = rw none (sym (take-append-drop m old)); counted = sym (selected-none m); differed = rw none (sym (differing-none held)) }
 
-  abbrev renewedTo : ℕ → List ℕ
-  renewedTo k = renewed (fileTo k) row i (take k before)
+  module _ (bs : List Bool) (verdicts : List ℕ) (r : Renewal) (long : length bs ≡ m) (t : Renewed bs fresh m old verdicts r) (k : ℕ) (h : k < m) (new : getD bs k false ≡ false) where
+    abbrev now : List ℕ
+    now = renewed bs fresh held
 
-  abbrev renewedAt : ℕ → ℕ
-  renewedAt k = remade xs row i (lineIn heads bodies k) (getD before k 0)
+    now-long : length now ≡ m
+    now-long = renewed-length bs fresh held (long ∙ sym held-long) (many ∙ sym held-long) ∙ held-long
 
-  -- with line k, which has room
-  module _ (k : ℕ) (h : k < length before) where
-    as-many : length (take k before) ≡ length (linesIn heads bodies k)
-    as-many = length-take-le k before (omega arith) ∙ sym (lines-length heads bodies k)
+    not-yet : getD now k 0 ≡ getD held k 0
+    not-yet = renewed-other bs fresh held k (long ∙ sym held-long) (many ∙ sym held-long) new
 
-    long : length (renewedTo k) ≡ k
-    long = renewed-length (fileTo k) row i (take k before) as-many ∙ lines-length heads bodies k
+    -- the verdict of line k is still as it was
+    still : getD verdicts k 0 ≡ getD held k 0
+    still = rw (t .made) (List·getD-append now (drop m old) 0 k (rw now-long h) ∙ not-yet)
 
-    renewed-more : renewedTo (k + 1) ≡ renewedTo k ++ (renewedAt k ∷ [])
-    renewed-more =
-        rw (lines-more heads bodies k, add-one k, take-suc before k 0 h) (renewed-last (fileTo k) row i (take k before) as-many (lineIn heads bodies k) (getD before k 0))
-
-    altered-more : differing (take (k + 1) before) (renewedTo (k + 1)) ≡ differing (take k before) (renewedTo k) + cond (eqb (getD before k 0) (renewedAt k)) 0 1
-    altered-more =
-        rw (renewed-more, add-one k, take-suc before k 0 h)
-        (differing-last (take k before) (renewedTo k) (getD before k 0) (renewedAt k) (long ∙ sym (length-take-le k before (omega arith))))
-
-    -- the verdict of line k is still as it was; made anew, it is put behind those before it
-    not-yet : getD (renewedTo k ++ drop k before) k 0 ≡ getD before k 0
-    not-yet = rw (drop-cons before k 0 h) (getD-at (renewedTo k) (getD before k 0) (drop (suc k) before) 0 k long)
-
-    renewed-put : set (renewedTo k ++ drop k before) k (renewedAt k) ≡ renewedTo (k + 1) ++ drop (k + 1) before
-    renewed-put =
-        rw (drop-cons before k 0 h, renewed-more, add-one k)
-        (set-at (renewedTo k) (getD before k 0) (drop (suc k) before) (renewedAt k) k long ∙ sym (append-snoc (renewedTo k) (renewedAt k) (drop (suc k) before)))
-
-  -- the first k lines and their counts
-  abbrev pub Turn : List ℕ → ℕ → ℕ → ℕ → Type 0
-  Turn verdicts named altered k = Renewed (fileTo k) k row i before verdicts (record { named = named; altered = altered })
-
-  pub turn-start : Turn before 0 0 0
-  unfolding linesIn tabulate renewed zipWith howMany differing
-  turn-start = record { made = refl; counted = refl; differed = refl }
-
-  -- line k
-  module _ (verdicts : List ℕ) (named altered k : ℕ) (t : Turn verdicts named altered k) (h : k < length before) where
-    still : getD verdicts k 0 ≡ getD before k 0
-    still = rw (t .made) (not-yet k h)
-
-    pub turn-next : (r : Renewal) (after : List ℕ)
-        → r ≡ renewalOf xs row i (lineIn heads bodies k) (getD verdicts k 0)
-        → after ≡ set verdicts k (remade xs row i (lineIn heads bodies k) (getD verdicts k 0))
-        → Turn after (named + r .named) (altered + r .altered) (k + 1)
-    turn-next r after e put =
-        let one : r ≡ renewalOf xs row i (lineIn heads bodies k) (getD before k 0) = rw still at e in
+    pub pick-renewed : Renewed (set bs k true) fresh m old (set verdicts k (getD fresh k 0)) (record { named = r .named + 1; altered = r .altered + cond (eqb (getD verdicts k 0) (getD fresh k 0)) 0 1 })
+    pick-renewed =
+        let more = renewed-more bs fresh held k (long ∙ sym held-long) (many ∙ sym held-long) (rw held-long h) in
         record {
-          made = (rw (still, t .made) at put) ∙ renewed-put k h;
-          counted = omega (arith, ap (λ x. x .named) one, named-more heads bodies i k, t .counted);
-          differed = omega (arith, ap (λ x. x .altered) one, altered-more k h, t .differed);
+          made = rw (t .made, more) (set-append-left now (drop m old) k (getD fresh k 0) (rw now-long h));
+          counted = omega (arith, t .counted, selected-more bs k (rw long h) new);
+          differed = rw (still, more) (omega (arith, t .differed, differing-more held now k (getD fresh k 0) (now-long ∙ sym held-long) (rw held-long h) not-yet));
         }
+
+    -- where a test passes
+    if-renewed : (test : Bool) (after : List ℕ) (one : Renewal) → RenewedIf test (getD fresh k 0) k verdicts after one
+        → Renewed (cond test (set bs k true) bs) fresh m old after (record { named = r .named + one .named; altered = r .altered + one .altered })
+    if-renewed true after one i = rw (i .made, i .counted, i .differed) pick-renewed
+    if-renewed false after one i = record { made = i .made ∙ t .made; counted = omega (arith, i .counted, t .counted); differed = omega (arith, i .differed, t .differed) }
+
+-- ---- of a selection the first k lines
+pub upTo : ℕ → List Bool → List Bool
+upTo zero bs = replicate (length bs) false
+upTo (suc k) [] = []
+upTo (suc k) (b ∷ bs) = b ∷ upTo k bs
+
+upTo-length : (k : ℕ) (bs : List Bool) → length (upTo k bs) ≡ length bs
+unfolding upTo
+upTo-length zero bs = length-replicate (length bs) false
+upTo-length (suc k) [] = refl
+upTo-length (suc k) (b ∷ bs) = ap suc (upTo-length k bs)
+
+upTo-all : (k : ℕ) (bs : List Bool) → length bs ≤ k → upTo k bs ≡ bs
+unfolding upTo
+upTo-all zero [] h = refl
+upTo-all zero (b ∷ bs) h = let z : ⊥ = omega arith in absurd z
+upTo-all (suc k) [] h = refl
+upTo-all (suc k) (b ∷ bs) h = ap (λ (z : List Bool). b ∷ z) (upTo-all k bs (omega arith))
+
+upTo-not-yet : (k : ℕ) (bs : List Bool) → getD (upTo k bs) k false ≡ false
+unfolding upTo
+upTo-not-yet zero [] = refl
+upTo-not-yet zero (b ∷ bs) = refl
+upTo-not-yet (suc k) [] = refl
+upTo-not-yet (suc k) (b ∷ bs) = upTo-not-yet k bs
+
+front-more : (b t : Bool) (x y : List Bool) → b ∷ cond t x y ≡ cond t (b ∷ x) (b ∷ y)
+front-more b true x y = refl
+front-more b false x y = refl
+
+upTo-more : (k : ℕ) (bs : List Bool) → k < length bs → upTo (suc k) bs ≡ cond (getD bs k false) (set (upTo k bs) k true) (upTo k bs)
+unfolding upTo
+upTo-more k [] h = let z : ⊥ = omega arith in absurd z
+upTo-more zero (true ∷ bs) h = refl
+upTo-more zero (false ∷ bs) h = refl
+upTo-more (suc k) (b ∷ bs) h = ap (λ (z : List Bool). b ∷ z) (upTo-more k bs (omega arith)) ∙ front-more b (getD bs k false) (set (upTo k bs) k true) (upTo k bs)
+
+-- something of each element, at a place
+getD-mapped : {A B : Type 0} (g : A → B) (l : List A) (k : ℕ) (d : A) (e : B) → k < length l → getD (map g l) k e ≡ g (getD l k d)
+getD-mapped g [] k d e h = let z : ⊥ = omega arith in absurd z
+getD-mapped g (x ∷ l) zero d e h = refl
+getD-mapped g (x ∷ l) (suc k) d e h = getD-mapped g l k d e (omega arith)
+
+-- ---- the list of a variable in an index, as a part of the lists
+module _ (m : ℕ) (x : Index) (i : ℕ) (h : ListFitting m x i) where
+  abbrev from : ℕ
+  from = getD (x .starts) i 0
+
+  abbrev to : ℕ
+  to = getD (x .starts) (i + 1) 0
+
+  pub part-listed : take (to - from) (drop from (x .lists)) ≡ listIn x i
+  unfolding listIn
+  part-listed =
+      let e : from + (to - from) ≡ to = omega (arith, h .rises) in
+      let part = take (to - from) (drop from (x .lists)) in
+      let front : take to (x .lists) ≡ take from (x .lists) ++ part = sym (ap (λ (k : ℕ). take k (x .lists)) e) ∙ take-add from (to - from) (x .lists) in
+      rw (← add-one i, front) (sym (drop-at (take from (x .lists)) part from (length-take-le from (x .lists) (omega (arith, h .rises, h .within)))))
+
+  pub part-fits : listFits m (take (to - from) (drop from (x .lists))) ≡ true
+  part-fits = rw part-listed (h .fits)
+
+-- ---- the lines in their table
+-- a number of a list that fits is one of the lines
+pub listed-place : (m : ℕ) (list : List ℕ) (k : ℕ) → listFits m list ≡ true → k < length list → (1 ≤ getD list k 0) × (getD list k 0 ≤ m)
+listed-place m list k fits h = let p = rising-at 1 (suc m) list k (list-rises m list fits) h in (p .0, omega (arith, p .1))
+
+module _ (xs : List Variable) (heads bodies : List ℕ) (m : ℕ) (row old : List ℕ) where
+  abbrev file : File
+  file = fileOf xs (linesIn heads bodies m)
+
+  abbrev fresh : List ℕ
+  fresh = freshVerdicts file row
+
+  -- something of each line is that of the line in the table
+  line-mapped : {B : Type 0} (g : Line → B) (k : ℕ) (e : B) → k < m → getD (map g (linesIn heads bodies m)) k e ≡ g (lineIn heads bodies k)
+  unfolding linesIn
+  line-mapped g k e h =
+      let long = lines-length heads bodies m in
+      getD-mapped g (linesIn heads bodies m) k (lineIn heads bodies k) e (rw long h) ∙ ap g (getD-tabulate (lineIn heads bodies) m k (lineIn heads bodies k) h)
+
+  fresh-length : length fresh ≡ m
+  fresh-length = verdicts-length xs row (linesIn heads bodies m) ∙ lines-length heads bodies m
+
+  fresh-at : (k : ℕ) → k < m → getD fresh k 0 ≡ verdictIn xs row heads bodies k
+  unfolding verdictsOf
+  fresh-at k h = line-mapped (λ l. judge xs row l .verdict) k 0 h
+
+  -- the lines that name a variable
+  module _ (i : ℕ) where
+    naming-length : length (naming file i) ≡ m
+    unfolding naming
+    naming-length = length-map (linesIn heads bodies m) (names i) ∙ lines-length heads bodies m
+
+    naming-at : (k : ℕ) → k < m → getD (naming file i) k false ≡ names i (lineIn heads bodies k)
+    unfolding naming
+    naming-at k h = line-mapped (names i) k false h
+
+    -- the first k lines and their counts
+    abbrev pub NamedTurn : List ℕ → ℕ → ℕ → ℕ → Type 0
+    NamedTurn verdicts named altered k = Renewed (upTo k (naming file i)) fresh m old verdicts (record { named = named; altered = altered })
+
+    pub named-start : m ≤ length old → NamedTurn old 0 0 0
+    unfolding upTo
+    named-start room = rw naming-length (start-renewed fresh old m fresh-length room)
+
+    pub named-next : m ≤ length old → (verdicts : List ℕ) (named altered k : ℕ) → NamedTurn verdicts named altered k → k < m
+        → (after : List ℕ) (one : Renewal) → RenewedIf (names i (lineIn heads bodies k)) (verdictIn xs row heads bodies k) k verdicts after one
+        → NamedTurn after (named + one .named) (altered + one .altered) (k + 1)
+    named-next room verdicts named altered k t h after one r =
+        let bs = naming file i in
+        let long = upTo-length k bs ∙ naming-length in
+        let more : upTo (k + 1) bs ≡ cond (names i (lineIn heads bodies k)) (set (upTo k bs) k true) (upTo k bs) = rw (add-one k, ← naming-at k h) (upTo-more k bs (rw naming-length h)) in
+        rw more (if-renewed fresh old m fresh-length room (upTo k bs) verdicts (record { named = named; altered = altered }) long t k h (upTo-not-yet k bs) (names i (lineIn heads bodies k)) after one (rw (fresh-at k h) r))
+
+    pub named-end : (verdicts : List ℕ) (named altered : ℕ) → NamedTurn verdicts named altered m → Renewed (naming file i) fresh m old verdicts (record { named = named; altered = altered })
+    named-end verdicts named altered t = rw (upTo-all m (naming file i) (rw naming-length (omega arith))) at t
+
+  -- the lines in a list that fits
+  module _ (list : List ℕ) where
+    -- the first k of them and their counts
+    abbrev pub ListedTurn : List ℕ → ℕ → ℕ → Type 0
+    ListedTurn verdicts altered k = Renewed (numbered (take k list) 1 (linesIn heads bodies m)) fresh m old verdicts (record { named = k; altered = altered })
+
+    pub listed-start : m ≤ length old → ListedTurn old 0 0
+    listed-start room = rw (numbered-nothing 1 (linesIn heads bodies m), lines-length heads bodies m) (start-renewed fresh old m fresh-length room)
+
+    -- the next, which has number `line` from 0
+    pub listed-next : m ≤ length old → listFits m list ≡ true → (verdicts : List ℕ) (altered k : ℕ) → ListedTurn verdicts altered k → k < length list
+        → (line : ℕ) → line ≡ getD list k 0 - 1
+        → (after : List ℕ) (one : ℕ) → one ≡ cond (eqb (getD verdicts line 0) (verdictIn xs row heads bodies line)) 0 1 → after ≡ set verdicts line (verdictIn xs row heads bodies line)
+        → ListedTurn after (altered + one) (k + 1)
+    listed-next room fits verdicts altered k t h line e after one d put =
+        let ls = linesIn heads bodies m in
+        let p = listed-place m list k fits h in
+        let is : 1 + line ≡ getD list k 0 = omega (arith, p) in
+        let within : line < m = omega (arith, p) in
+        let long = numbered-length (take k list) 1 ls ∙ lines-length heads bodies m in
+        let new : isOneOf (1 + line) (take k list) ≡ false = rw is (rising-new 1 (suc m) list k (list-rises m list fits) h) in
+        let more : numbered (take (k + 1) list) 1 ls ≡ set (numbered (take k list) 1 ls) line true = rw (add-one k, take-suc list k 0 h, ← is) (numbered-more (take k list) line 1 ls (rw (lines-length heads bodies m) within)) in
+        rw (more, d, put, ← fresh-at line within) (pick-renewed fresh old m fresh-length room (numbered (take k list) 1 ls) verdicts (record { named = k; altered = altered }) long t line within (numbered-none (take k list) 1 ls line new))
+
+    pub listed-end : (verdicts : List ℕ) (altered : ℕ) → ListedTurn verdicts altered (length list) → Renewed (numbered list 1 (linesIn heads bodies m)) fresh m old verdicts (record { named = length list; altered = altered })
+    listed-end verdicts altered t = rw (take-length list) at t
+
+-- a line counts once
+pub differs-most : (s : Bool) → cond s 0 1 ≤ 1
+differs-most true = omega arith
+differs-most false = omega arith
+
+altered-most : (s t : Bool) → cond s (cond t 0 1) 0 ≤ 1
+altered-most true t = differs-most t
+altered-most false t = omega arith
+
+pub renewed-most : (test : Bool) (fresh k : ℕ) (old new : List ℕ) (r : Renewal) → RenewedIf test fresh k old new r → (r .named ≤ 1) × (r .altered ≤ 1)
+renewed-most test fresh k old new r e = (rw (e .counted) (one-most test), rw (e .differed) (altered-most test (eqb (getD old k 0) fresh)))

@@ -1,94 +1,101 @@
 -- What a change leaves as it was. Assumes nothing.
-use Prim.Native.Nat.{ℕ, zero, suc}
+use Prim.Native.Nat.{ℕ, suc, _<_}
 use mathlib.Core.Path.{_≡_, refl, sym, ap, _∙_}
-use mathlib.Core.Bool.{false}
-use mathlib.Core.List.{List, [], _∷_, _++_, zipWith}
-use native.Mathlib.Omega.{arith}
-use lib.ListN.{length, getD, take, drop, set, length-set, take-append-drop}
+use mathlib.Core.Bool.{Bool}
+use mathlib.Core.List.{List, [], _∷_}
+use lib.ListN.{length, getD, set, length-set, take-append-drop}
 use lib.Seq.{length-front, length-take-le, getD-set-other}
 use Rattle.refusal.specs.declared.Refusal.{Refusal}
 use Rattle.refusal.specs.Result.{Result, accepted, refused}
 use Rattle.refusal.proofs.ResultLaws.{never}
-use Rattle.constraint.specs.declared.Line.{Line}
-use Rattle.constraint.specs.File.{Variable, File}
+use Rattle.constraint.specs.File.{File}
 use Rattle.constraint.specs.Read.{readFile}
+use Rattle.constraint.specs.Sound.{Each}
+use Rattle.judge.specs.Judge.{freshVerdicts}
 use Rattle.judge.specs.InUse.{rowInUse, verdictsInUse}
-use Rattle.moves.specs.declared.ChangeReply.{ChangeReply}
+use Rattle.judge.proofs.VerdictLaws.{verdicts-length}
+use Rattle.index.specs.Select.{naming}
+use Rattle.index.specs.AnyIndex.{concerned}
+use Rattle.index.proofs.SelectLaws.{concerned-length}
+use Rattle.index.proofs.OwnIndexLaws.{concerned-naming}
 use Rattle.moves.specs.declared.ChangeReply.the-variants.{Refused}
-use Rattle.moves.specs.Change.{remade, renewed, changingFor, ChangeOutcome, accept, changed, changeBy, changeOutcome}
-use Rattle.moves.specs.Run.{Change, putBack, Run, done, call, theChange, EachCall}
-use Rattle.moves.specs.WholeRun.{namedAt, TouchesOnly, SingleChangeTouchesNoOther, SingleRefusalTouchesNothing}
-use Rattle.moves.proofs.GateLaws.{Passed, changing-passed}
-use Rattle.moves.proofs.RenewLaws.{renewed-length}
-
--- the verdict of line j, which does not name the variable
-verdict-kept : (xs : List Variable) (row : List ℕ) (i : ℕ) (ls : List Line) (verdicts : List ℕ) (j : ℕ) → namedAt i ls j ≡ false → getD (zipWith (remade xs row i) ls (take (length ls) verdicts) ++ drop (length ls) verdicts) j 0 ≡ getD verdicts j 0
-unfolding zipWith remade
-verdict-kept xs row i [] verdicts j e = refl
-verdict-kept xs row i (l ∷ ls) [] j e = refl
-verdict-kept xs row i (l ∷ ls) (v ∷ verdicts) zero e = rw e
-verdict-kept xs row i (l ∷ ls) (v ∷ verdicts) (suc j) e = verdict-kept xs row i ls verdicts j e
+use Rattle.moves.specs.Step.{Tables, renewed, step}
+use Rattle.moves.specs.Gate.{Call, Room, admitted}
+use Rattle.moves.specs.Change.{Outcome, made, changed, changeBy, changeOutcome}
+use Rattle.moves.specs.Run.{Turn, fronts, putBack, turnOutcome, EachTurn, theChange}
+use Rattle.moves.specs.WholeRun.{OfRun, TouchesOnly, TouchesNoOther, RefusedTouchesNothing}
+use Rattle.moves.proofs.ColumnLaws.{place-kept}
+use Rattle.moves.proofs.RenewLaws.{renewed-length, renewed-other}
+use Rattle.moves.proofs.GateLaws.{Admitted, admitted-passed}
+use Rattle.moves.proofs.ChangeLaws.{values-stored}
 
 -- ---- a change on a file that is read
-module _ (f : File) (values verdicts : List ℕ) (i v : ℕ) where
-  accept-touches : Passed f values verdicts i v → TouchesOnly f i values verdicts (accept f values verdicts i v)
-  unfolding accept renewed
-  accept-touches p =
-      let row = set (rowInUse f values) i v in
-      let before = verdictsInUse f verdicts in
-      let many = length-take-le (length (f .lines)) verdicts (p .verdicts-room) in
+module _ (f : File) (t : Tables) (c : Call) where
+  abbrev variable : ℕ
+  variable = c .change .variable
+
+  pub made-touches : Admitted f t c → TouchesOnly variable (concerned f (c .index) variable) t (made f t c)
+  unfolding made step
+  made-touches p =
+      let m = length (f .lines) in
+      let sel = concerned f (c .index) variable in
+      let row = set (rowInUse f (t .values)) variable (c .change .value) in
+      let held = verdictsInUse f (t .verdicts) in
+      let held-long = length-take-le m (t .verdicts) (p .is-entitled .verdicts-room) in
+      let sel-long : length sel ≡ length held = concerned-length f (c .index) variable ∙ sym held-long in
+      let fresh-long : length (freshVerdicts f row) ≡ length held = verdicts-length (f .variables) row (f .lines) ∙ sym held-long in
+      let new-long = renewed-length sel (freshVerdicts f row) held sel-long fresh-long in
+      let stored = values-stored f (t .values) (t .verdicts) variable (c .change .value) (c .index) p in
       record {
-        other-values = λ j h. getD-set-other values i j v 0 h;
-        values-long = length-set values i v;
-        other-verdicts = λ j e. verdict-kept (f .variables) row i (f .lines) verdicts j e;
-        verdicts-long = length-front verdicts (renewed f row i before) (length (f .lines)) (renewed-length f row i before many ∙ sym many);
+        other-values = λ j h. ap (λ (l : List ℕ). getD l j 0) stored ∙ getD-set-other (t .values) variable j (c .change .value) 0 h;
+        values-long = ap length stored ∙ length-set (t .values) variable (c .change .value);
+        other-verdicts = λ j e. place-kept (renewed sel (freshVerdicts f row) held) (t .verdicts) m j new-long (renewed-other sel (freshVerdicts f row) held j sel-long fresh-long e);
+        verdicts-long = length-front (t .verdicts) (renewed sel (freshVerdicts f row) held) m new-long;
         refused-nothing = λ r e. never (cc e);
       }
 
   -- accepted or refused
-  changed-touches : (r : Result (Unit {0})) → changingFor f values verdicts i v ≡ r → TouchesOnly f i values verdicts (changed f values verdicts i v r)
-  changed-touches (accepted tt) e = accept-touches (changing-passed f values verdicts i v e)
-  changed-touches (refused r) e = record { other-values = λ j h. refl; values-long = refl; other-verdicts = λ j h. refl; verdicts-long = refl; refused-nothing = λ x q. (refl, refl) }
+  changed-touches : (r : Result (Unit {0})) → admitted f t c ≡ r → (lines : List Bool) → (variable < length (f .variables) → concerned f (c .index) variable ≡ lines) → TouchesOnly variable lines t (changed f t c r)
+  changed-touches (accepted tt) e lines same = let p = admitted-passed f t c e in rw (← same (p .is-entitled .variable)) (made-touches p)
+  changed-touches (refused r) e lines same = record { other-values = λ j h. refl; values-long = refl; other-verdicts = λ j h. refl; verdicts-long = refl; refused-nothing = λ x q. refl }
 
 -- ---- a change of any constraint file
-refused-by : (values verdicts : List ℕ) (i v : ℕ) (x : Refusal) (q : Result File) → changeBy q values verdicts i v .reply ≡ Refused x → (changeBy q values verdicts i v .values ≡ values) × (changeBy q values verdicts i v .verdicts ≡ verdicts)
-refused-by values verdicts i v x (accepted f) e = changed-touches f values verdicts i v (changingFor f values verdicts i v) refl .refused-nothing x e
-refused-by values verdicts i v x (refused r) e = (refl, refl)
+refused-by : (t : Tables) (c : Call) (x : Refusal) (q : Result File) → changeBy q t c .reply ≡ Refused x → changeBy q t c .tables ≡ t
+refused-by t c x (accepted f) e = changed-touches f t c (admitted f t c) refl (concerned f (c .index) (c .change .variable)) (λ h. refl) .refused-nothing x e
+refused-by t c x (refused r) e = refl
 
-pub single-change-touches-no-other : SingleChangeTouchesNoOther
-single-change-touches-no-other constraint values verdicts f i v e = rw e (changed-touches f values verdicts i v (changingFor f values verdicts i v) refl)
+pub touches-no-other : TouchesNoOther
+touches-no-other constraint t c f e = rw e (changed-touches f t c (admitted f t c) refl (concerned f (c .index) (c .change .variable)) (λ h. refl))
 
-pub single-refusal-touches-nothing : SingleRefusalTouchesNothing
-single-refusal-touches-nothing constraint values verdicts i v x e = refused-by values verdicts i v x (readFile constraint) e
+pub refused-touches-nothing : RefusedTouchesNothing
+refused-touches-nothing constraint t c x e = refused-by t c x (readFile constraint) e
 
--- ---- a change of the first entries
--- a front that is alike at j, before the same rest
-alike-front : (front before rest : List ℕ) (j : ℕ) → length front ≡ length before → getD front j 0 ≡ getD before j 0 → getD (front ++ rest) j 0 ≡ getD (before ++ rest) j 0
-alike-front [] [] rest j l e = refl
-alike-front [] (y ∷ before) rest j l e = let z : ⊥ = omega arith in absurd z
-alike-front (x ∷ front) [] rest j l e = let z : ⊥ = omega arith in absurd z
-alike-front (x ∷ front) (y ∷ before) rest zero l e = e
-alike-front (x ∷ front) (y ∷ before) rest (suc j) l e = alike-front front before rest j (omega arith) e
+-- ---- a change of the first entries, in whole tables: it leaves the rest as well
+back-touches : (i : ℕ) (lines : List Bool) (n : Room) (t : Tables) (o : Outcome) → TouchesOnly i lines (fronts n t) o → TouchesOnly i lines t (record { reply = o .reply; tables = putBack n (o .tables) t })
+back-touches i lines n t o k =
+    let p = n .values in
+    let q = n .verdicts in
+    record {
+      other-values = λ j h. place-kept (o .tables .values) (t .values) p j (k .values-long) (k .other-values j h);
+      values-long = length-front (t .values) (o .tables .values) p (k .values-long);
+      other-verdicts = λ j h. place-kept (o .tables .verdicts) (t .verdicts) q j (k .verdicts-long) (k .other-verdicts j h);
+      verdicts-long = length-front (t .verdicts) (o .tables .verdicts) q (k .verdicts-long);
+      refused-nothing = λ r e. rw (k .refused-nothing r e, take-append-drop p (t .values), take-append-drop q (t .verdicts));
+    }
 
--- in whole tables it leaves the rest as well
-module _ (f : File) (i : ℕ) (values verdicts : List ℕ) (p q : ℕ) (o : ChangeOutcome) (t : TouchesOnly f i (take p values) (take q verdicts) o) where
-  back-touches : TouchesOnly f i values verdicts (putBack p q values verdicts o)
-  back-touches =
-      record {
-        other-values = λ j h. alike-front (o .values) (take p values) (drop p values) j (t .values-long) (t .other-values j h) ∙ ap (λ (l : List ℕ). getD l j 0) (take-append-drop p values);
-        values-long = length-front values (o .values) p (t .values-long);
-        other-verdicts = λ j h. alike-front (o .verdicts) (take q verdicts) (drop q verdicts) j (t .verdicts-long) (t .other-verdicts j h) ∙ ap (λ (l : List ℕ). getD l j 0) (take-append-drop q verdicts);
-        verdicts-long = length-front verdicts (o .verdicts) q (t .verdicts-long);
-        refused-nothing = λ r e. let z = t .refused-nothing r e in (rw (z .0) (take-append-drop p values), rw (z .1) (take-append-drop q verdicts));
-      }
+-- ---- each turn of a run
+module _ (constraint : List ℕ) (f : File) (read : readFile constraint ≡ accepted f) (t₁ : Tables) where
+  abbrev OwnTurn : Turn → Tables → Outcome → Type 0
+  OwnTurn u = TouchesOnly (u .call .change .variable) (naming f (u .call .change .variable))
 
--- ---- each call of a run
-pub run-touches : (constraint : List ℕ) (f : File) → readFile constraint ≡ accepted f
-    → {n : ℕ} {values verdicts : List ℕ} {cs : List Change} {replies : List ChangeReply} {values′ verdicts′ : List ℕ} (r : Run theChange constraint n values verdicts cs replies values′ verdicts′)
-    → EachCall (λ c. TouchesOnly f (c .variable)) r
-run-touches constraint f read done = tt
-run-touches constraint f read (call {values = values} {verdicts = verdicts} {c = c} hp hq e rest) =
-    let p = c .valuesLent in
-    let q = c .verdictsLent in
-    let one = single-change-touches-no-other constraint (take p values) (take q verdicts) f (c .variable) (c .value) read in
-    (rw e (back-touches f (c .variable) values verdicts p q (changeOutcome constraint (take p values) (take q verdicts) (c .variable) (c .value)) one), run-touches constraint f read rest)
+  turn-touches : (t : Tables) (u : Turn) → OfRun f t₁ u → OwnTurn u t (turnOutcome changeOutcome constraint t u)
+  turn-touches t u o =
+      let c = u .call in
+      let i = c .change .variable in
+      let lent = fronts (u .lent) t in
+      let one : TouchesOnly i (naming f i) lent (changeOutcome constraint lent c) = rw read (changed-touches f lent c (admitted f lent c) refl (naming f i) (concerned-naming f (c .index) (o .index) i)) in
+      back-touches i (naming f i) (u .lent) t (changeOutcome constraint lent c) one
+
+  pub run-touches : (us : List Turn) → Each (OfRun f t₁) us → (n : ℕ) (t : Tables) → EachTurn OwnTurn theChange constraint n t us
+  run-touches [] e n t = tt
+  run-touches (u ∷ us) e n t = (turn-touches t u (e .0), run-touches us (e .1) (suc n) (turnOutcome changeOutcome constraint t u .tables))

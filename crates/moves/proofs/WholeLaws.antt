@@ -1,75 +1,67 @@
 -- From an accepted check every run answers and leaves what the model does, which is what a fresh check leaves. Assumes nothing.
-use Prim.Native.Nat.{ℕ, _≤_, _^_}
+use Prim.Native.Nat.{ℕ, _^_, min}
 use mathlib.Core.Path.{_≡_, refl, sym, ap, _∙_}
-use mathlib.Core.Bool.{Bool, true, false}
-use mathlib.Core.List.{List, [], _∷_, _++_}
+use mathlib.Core.List.{List, [], _∷_}
+use native.Mathlib.Nat.{min-le-right}
 use native.Mathlib.Omega.{arith}
 use lib.Dec.{ltb, leb}
-use lib.ListN.{length, drop, length-append}
-use lib.Seq.{take-at, drop-at}
-use Rattle.refusal.specs.declared.Refusal.{Refusal}
-use Rattle.refusal.specs.declared.Subject.the-variants.{Call}
-use Rattle.refusal.specs.Numbers.{valueDoesNotFit, heldDoesNotFit}
-use Rattle.refusal.specs.Result.{Result, accepted, refused, refusal, ensure}
+use lib.ListN.{length, drop}
+use Rattle.refusal.specs.Result.{Result, accepted, refused}
 use Rattle.refusal.proofs.ResultLaws.{never}
-use Rattle.refusal.proofs.RefusesLaws.{Refuses, refuses-accepted, refuses-refused, refuses-ensure}
+use Rattle.refusal.proofs.RefusesLaws.{Refuses, refuses-ensure, refuses-test}
 use Rattle.constraint.specs.File.{File, editionOf, widthAt}
 use Rattle.constraint.specs.Sound.{Each}
 use Rattle.constraint.proofs.SoundLaws.{accepted-is-sound}
 use Rattle.judge.specs.Judge.{freshVerdicts, overallOf}
-use Rattle.judge.proofs.VerdictLaws.{verdicts-length}
 use Rattle.answer.proofs.FitLaws.{answer-fits, row-fits-answer}
 use Rattle.tables.specs.declared.CheckReply.the-variants.{Checked}
 use Rattle.tables.specs.Check.{CheckOutcome, checking, checked}
-use Rattle.moves.specs.Change.{numbersFit}
-use Rattle.moves.specs.Run.{Change, modelling, modelled, modelReplies, modelOutcome, modelRow}
-use Rattle.moves.specs.WholeRun.{AcceptedCheck, HeldFits, WholeRun, AsFreshCheck}
 use Rattle.tables.proofs.CheckingLaws.{checking-steps, steps-checking}
 use Rattle.tables.proofs.CheckLaws.{tables-filled}
+use Rattle.moves.specs.Step.{Tables}
+use Rattle.moves.specs.Gate.{changeFits, entitled}
+use Rattle.moves.specs.Change.{Outcome, changeOutcome}
+use Rattle.moves.specs.Run.{Turn, fronts, putBack, turnOutcome, tablesAfter, theChange, modelled, modelReplies, modelOutcome, modelRow}
+use Rattle.moves.specs.WholeRun.{AcceptedCheck, NotOfTables, HeldFits, WholeRun, AsFreshCheck, FrontIsTurn}
+use Rattle.moves.proofs.ColumnLaws.{column-within, column-front, column-is, take-least, drop-least}
 use Rattle.moves.proofs.TouchLaws.{run-touches}
-use Rattle.moves.proofs.RunLaws.{State, run-ran}
+use Rattle.moves.proofs.RunLaws.{State, fresh-long, run-ran}
 
--- ---- the model does not refuse with 24
-abbrev Other : Refusal → Type 0
-Other x = x .number ≡ heldDoesNotFit → ⊥
+-- ---- the model refuses with neither 24 nor 25
+model-refuses : (f : File) (u : Turn) → Refuses NotOfTables (entitled f (u .lent) (u .call))
+unfolding entitled changeFits
+model-refuses f u =
+    let c = u .call .change in
+    refuses-ensure (leb (length (f .variables)) (u .lent .values)) _ (record { not-24 = λ e. omega arith; not-25 = λ e. omega arith }) (
+    refuses-ensure (leb (length (f .lines)) (u .lent .verdicts)) _ (record { not-24 = λ e. omega arith; not-25 = λ e. omega arith }) (
+    refuses-ensure (ltb (c .variable) (length (f .variables))) _ (record { not-24 = λ e. omega arith; not-25 = λ e. omega arith }) (
+    refuses-test (ltb (c .value) (2 ^ widthAt (f .variables) (c .variable))) _ (record { not-24 = λ e. omega arith; not-25 = λ e. omega arith }))))
 
-refuses-test : (t : Bool) (r : Refusal) → Other r → Refuses Other (ensure t r)
-refuses-test true r h = refuses-accepted
-refuses-test false r h = refuses-refused h
+reply-fits : (f : File) (row : List ℕ) (u : Turn) (r : Result (Unit {0})) → entitled f (u .lent) (u .call) ≡ r → HeldFits (modelled f row u r .reply)
+reply-fits f row u (accepted tt) e = tt
+reply-fits f row u (refused x) e = model-refuses f u .holds x e
 
-model-refuses : (f : File) (c : Change) → Refuses Other (modelling f c)
-unfolding modelling numbersFit
-model-refuses f c =
-    refuses-ensure (leb (length (f .variables)) (c .valuesLent)) _ (λ e. omega arith) (
-    refuses-ensure (leb (length (f .lines)) (c .verdictsLent)) _ (λ e. omega arith) (
-    refuses-ensure (ltb (c .variable) (length (f .variables))) _ (λ e. omega arith) (
-    refuses-test (ltb (c .value) (2 ^ widthAt (f .variables) (c .variable))) (refusal Call valueDoesNotFit 0) (λ e. omega arith))))
-
-reply-fits : (f : File) (row : List ℕ) (c : Change) (r : Result (Unit {0})) → modelling f c ≡ r → HeldFits (modelled f row c r .reply)
-reply-fits f row c (accepted tt) e = tt
-reply-fits f row c (refused x) e = model-refuses f c .holds x e
-
-all-fit : (f : File) (row : List ℕ) (cs : List Change) → Each HeldFits (modelReplies f row cs)
+all-fit : (f : File) (row : List ℕ) (us : List Turn) → Each HeldFits (modelReplies f row us)
 unfolding modelReplies
 all-fit f row [] = tt
-all-fit f row (c ∷ cs) = (reply-fits f row c (modelling f c) refl, all-fit f (modelOutcome f row c .row) cs)
+all-fit f row (u ∷ us) = (reply-fits f row u (entitled f (u .lent) (u .call)) refl, all-fit f (modelOutcome f row u .row) us)
 
 -- ---- the start
-module _ (constraint answer values verdicts : List ℕ) (f : File) (row values₁ verdicts₁ : List ℕ) (a : AcceptedCheck constraint answer values verdicts f row values₁ verdicts₁) where
+module _ (constraint answer : List ℕ) (t : Tables) (f : File) (row : List ℕ) (t₁ : Tables) (a : AcceptedCheck constraint answer t f row t₁) where
   -- the check is accepted, so it has room
-  checking-is : (r : Result (File × List ℕ)) → checking constraint answer values verdicts ≡ r → Checked (a .overall) ≡ checked values verdicts r .reply → checking constraint answer values verdicts ≡ accepted (f, row)
+  checking-is : (r : Result (File × List ℕ)) → checking constraint answer (t .values) (t .verdicts) ≡ r → Checked (a .overall) ≡ checked (t .values) (t .verdicts) r .reply → checking constraint answer (t .values) (t .verdicts) ≡ accepted (f, row)
   checking-is (accepted (g, other)) e q =
-      let s = checking-steps constraint answer values verdicts g other e in
+      let s = checking-steps constraint answer (t .values) (t .verdicts) g other e in
       let z : accepted f ≡ accepted g = sym (a .file-is-read) ∙ s .file in
       let y : f ≡ g = cc z in
-      steps-checking constraint answer values verdicts f row (record { file = a .file-is-read; answered = a .answer-is-read; values-room = rw y (s .values-room); verdicts-room = rw y (s .verdicts-room) })
+      steps-checking constraint answer (t .values) (t .verdicts) f row (record { file = a .file-is-read; answered = a .answer-is-read; values-room = rw y (s .values-room); verdicts-room = rw y (s .verdicts-room) })
   checking-is (refused x) e q = never (cc q)
 
   -- the tables that it left
-  left : _≡_ {A = CheckOutcome} (record { reply = Checked (a .overall); values = values₁; verdicts = verdicts₁ }) (checked values verdicts (accepted (f, row)))
-  left = a .call ∙ ap (checked values verdicts) (checking-is (checking constraint answer values verdicts) refl (ap (λ o. o .reply) (a .call)))
+  left : _≡_ {A = CheckOutcome} (record { reply = Checked (a .overall); values = t₁ .values; verdicts = t₁ .verdicts }) (checked (t .values) (t .verdicts) (accepted (f, row)))
+  left = a .call ∙ ap (checked (t .values) (t .verdicts)) (checking-is (checking constraint answer (t .values) (t .verdicts)) refl (ap (λ o. o .reply) (a .call)))
 
-  check-state : State f row (drop (length (f .variables)) values) (drop (length (f .lines)) verdicts) values₁ verdicts₁
+  check-state : State f row t t₁
   check-state =
       let s = accepted-is-sound constraint f (a .file-is-read) in
       record {
@@ -81,43 +73,55 @@ module _ (constraint answer values verdicts : List ℕ) (f : File) (row values�
 
 -- ---- the whole run
 pub whole-run : WholeRun
-whole-run constraint answer values verdicts f row values₁ verdicts₁ cs replies values′ verdicts′ a r =
+whole-run constraint answer t f row t₁ us a e =
     let m = length (f .lines) in
-    let last = modelRow f row cs in
-    let w = run-ran constraint f (a .file-is-read) (drop (length (f .variables)) values) (drop m verdicts) r row (check-state constraint answer values verdicts f row values₁ verdicts₁ a) in
+    let last = modelRow f row us in
+    let start = check-state constraint answer t f row t₁ a in
+    let w = run-ran constraint f (a .file-is-read) t t₁ row start us e 0 row t₁ start in
+    let s = w .state-is in
     record {
       replies-are = w .replies-are;
-      values-are = w .state-is .values-are;
-      verdicts-are = w .state-is .verdicts-are;
-      overall-is = rw (w .state-is .verdicts-are) (ap overallOf (take-at (freshVerdicts f last) (drop m verdicts) m (verdicts-length (f .variables) last (f .lines))));
-      held-fits = rw (w .replies-are) (all-fit f row cs);
-      touches-only = run-touches constraint f (a .file-is-read) r;
+      tables-are = rw (← s .values-are, ← s .verdicts-are);
+      overall-is = ap overallOf (column-front (freshVerdicts f last) (drop m (t .verdicts)) (tablesAfter theChange constraint 0 t₁ us .verdicts) m (fresh-long f last) (s .verdicts-are));
+      held-fits = rw (w .replies-are) (all-fit f row us);
+      touches-only = run-touches constraint f (a .file-is-read) t₁ us e 0 t₁;
     }
 
 -- ---- a fresh check
--- a table of a front and a rest, of which n entries are the front
-module _ (table front rest : List ℕ) (n : ℕ) (l : length front ≡ n) (e : table ≡ front ++ rest) where
-  front-is : table ≡ front ++ drop n table
-  front-is = rw (e, drop-at front rest n l)
-
-  front-within : n ≤ length table
-  front-within = rw e (omega (arith, length-append front rest))
-
 pub as-fresh-check : AsFreshCheck
-as-fresh-check constraint answer values verdicts f row values₁ verdicts₁ cs replies values′ verdicts′ answer′ a r q =
+as-fresh-check constraint answer t f row t₁ us answer′ a e q =
     let n = length (f .variables) in
     let m = length (f .lines) in
-    let last = modelRow f row cs in
+    let last = modelRow f row us in
     let fresh = freshVerdicts f last in
-    let w = whole-run constraint answer values verdicts f row values₁ verdicts₁ cs replies values′ verdicts′ a r in
-    let s = accepted-is-sound constraint f (a .file-is-read) in
-    let long = answer-fits (editionOf f) (f .variables) answer′ last (s .variables) (s .distinct) q .0 in
-    let judged = verdicts-length (f .variables) last (f .lines) in
-    let check = steps-checking constraint answer′ values′ verdicts′ f last (record {
+    let t′ = tablesAfter theChange constraint 0 t₁ us in
+    let start = check-state constraint answer t f row t₁ a in
+    let s = run-ran constraint f (a .file-is-read) t t₁ row start us e 0 row t₁ start .state-is in
+    let check = steps-checking constraint answer′ (t′ .values) (t′ .verdicts) f last (record {
       file = a .file-is-read;
       answered = q;
-      values-room = front-within values′ last (drop n values) n long (w .values-are);
-      verdicts-room = front-within verdicts′ fresh (drop m verdicts) m judged (w .verdicts-are);
+      values-room = column-within last (drop n (t .values)) (t′ .values) n (s .long) (s .values-are);
+      verdicts-room = column-within fresh (drop m (t .verdicts)) (t′ .verdicts) m (fresh-long f last) (s .verdicts-are);
     }) in
-    tables-filled values′ verdicts′ f last values′ verdicts′ n m refl refl (front-is values′ last (drop n values) n long (w .values-are)) (front-is verdicts′ fresh (drop m verdicts) m judged (w .verdicts-are))
-    ∙ ap (checked values′ verdicts′) (sym check)
+    tables-filled (t′ .values) (t′ .verdicts) f last (t′ .values) (t′ .verdicts) n m refl refl (column-is last (drop n (t .values)) (t′ .values) n (s .long) (s .values-are)) (column-is fresh (drop m (t .verdicts)) (t′ .verdicts) m (fresh-long f last) (s .verdicts-are))
+    ∙ ap (checked (t′ .values) (t′ .verdicts)) (sym check)
+
+-- ---- no more entries are lent than there are
+pub front-is-turn : FrontIsTurn
+front-is-turn constraint t u =
+    let p = u .lent .values in
+    let q = u .lent .verdicts in
+    (min-le-right p (length (t .values)), min-le-right q (length (t .verdicts)), rw (take-least p (t .values), take-least q (t .verdicts), drop-least p (t .values), drop-least q (t .verdicts)))
+
+-- what is left of the first entries, in front of the rest
+abbrev pub lentBack : ℕ → ℕ → Tables → Outcome → Outcome
+lentBack k l t o = record { reply = o .reply; tables = putBack (record { values = k; verdicts = l }) (o .tables) t }
+
+-- a change that is lent the first k values and the first l verdicts, by what it answered and left of them
+pub front-lent : (constraint : List ℕ) (t : Tables) (u : Turn) (k l : ℕ) (o : Outcome)
+    → k ≡ min (u .lent .values) (length (t .values))
+    → l ≡ min (u .lent .verdicts) (length (t .verdicts))
+    → o ≡ changeOutcome constraint (fronts (record { values = k; verdicts = l }) t) (u .call)
+    → lentBack k l t o ≡ turnOutcome changeOutcome constraint t u
+front-lent constraint t u k l o a b e =
+    ap (lentBack k l t) e ∙ rw (a, b) (front-is-turn constraint t u .2)

@@ -1,35 +1,51 @@
--- What the results of this crate's functions and the tables mean, in terms of the definitions.
-use Prim.Native.Nat.{ℕ}
-use mathlib.Core.Path.{_≡_}
-use mathlib.Core.Bool.{cond}
-use mathlib.Core.List.{List, _++_}
-use mathlib.Core.Option.{none}
-use lib.Dec.{eqb}
-use lib.ListN.{take, drop}
-use Rattle.refusal.specs.Lists.{howMany}
-use Rattle.refusal.specs.Result.{Result, accepted, refused}
-use Rattle.constraint.specs.declared.Line.{Line}
-use Rattle.constraint.specs.File.{Variable, File}
-use Rattle.moves.specs.declared.Gate.{Gate}
-use Rattle.moves.specs.declared.Gate.the-variants.{Pass, Bar}
-use Rattle.moves.specs.declared.Renewal.{Renewal}
-use Rattle.moves.specs.Change.{names, remade, renewed, differing}
+-- The tests of a change, in their order.
+use Prim.Native.Nat.{ℕ, _^_}
+use mathlib.Core.Option.{Option}
+use lib.Dec.{ltb}
+use lib.ListN.{length}
+use Rattle.refusal.specs.declared.Subject.the-variants.{Call as CallsNumbers}
+use Rattle.refusal.specs.Numbers.{valueDoesNotFit, noSuchVariable}
+use Rattle.refusal.specs.Result.{Result, refusal, ensure, _>>_}
+use Rattle.constraint.specs.File.{File, widthAt}
+use Rattle.judge.specs.InUse.{valuesRoom, verdictsRoom, valuesFit, verdictsFit}
+use Rattle.index.specs.Index.{Index}
+use Rattle.index.specs.AnyIndex.{indexFits}
+use Rattle.moves.specs.Step.{Tables, Change}
 
--- the tests passed, or a refusal
-abbrev pub gateResult : Gate → Result (Unit {0})
-gateResult Pass = accepted tt
-gateResult (Bar r) = refused r
+-- a call, but for the tables: what it is told, and the index that it is lent, if any
+pub record Call : Type 0 where
+  pub change : Change
+  pub index : Option Index
 
--- a file of these variables and lines, without version and expectation: a change needs neither
-abbrev pub fileOf : List Variable → List Line → File
-fileOf xs ls = record { version = none; expectation = none; variables = xs; lines = ls }
+-- the call that changes the variable i to the value v
+abbrev pub changing : ℕ → ℕ → Option Index → Call
+changing i v x = record { change = record { variable = i; value = v }; index = x }
 
--- what one line adds to the counts: whether it names the variable, and whether its verdict became different
-abbrev pub renewalOf : List Variable → List ℕ → ℕ → Line → ℕ → Renewal
-renewalOf xs row i l v = record { named = cond (names i l) 1 0; altered = cond (eqb v (remade xs row i l v)) 0 1 }
+-- how many entries of each table are lent
+pub record Room : Type 0 where
+  pub values : ℕ
+  pub verdicts : ℕ
 
--- the verdicts of a file's m lines are made anew for the variable i and counted, and those behind them are as they were
-pub record Renewed (f : File) (m : ℕ) (row : List ℕ) (i : ℕ) (before after : List ℕ) (r : Renewal) : Type 0 where
-  pub made : after ≡ renewed f row i (take m before) ++ drop m before
-  pub counted : r .named ≡ howMany (names i) (f .lines)
-  pub differed : r .altered ≡ differing (take m before) (renewed f row i (take m before))
+abbrev pub roomOf : Tables → Room
+roomOf t = record { values = length (t .values); verdicts = length (t .verdicts) }
+
+-- 23, then 18
+unfoldable pub changeFits : File → Change → Result (Unit {0})
+changeFits f c = do
+  ensure (ltb (c .variable) (length (f .variables))) (refusal CallsNumbers noSuchVariable 0)
+  ensure (ltb (c .value) (2 ^ widthAt (f .variables) (c .variable))) (refusal CallsNumbers valueDoesNotFit 0)
+
+-- the tests that come before 24: they "go by what that change is lent and told", and not by what stands in the tables
+unfoldable pub entitled : File → Room → Call → Result (Unit {0})
+entitled f lent c = do
+  valuesRoom f (lent .values)
+  verdictsRoom f (lent .verdicts)
+  changeFits f (c .change)
+
+-- all tests: "21, 23, 18, 24", then 25
+unfoldable pub admitted : File → Tables → Call → Result (Unit {0})
+admitted f t c = do
+  entitled f (roomOf t) c
+  valuesFit f (t .values)
+  verdictsFit f (t .verdicts)
+  indexFits f (c .index)

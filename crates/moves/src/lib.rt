@@ -1,12 +1,14 @@
-// The change of a single value, and runs of changes.
+// The change of a single value, with and without an index, and runs of changes.
 use judge::Overall;
 use refusal::Refusal;
 
 pub mod change;
 pub mod claims;
+mod renewing;
 pub mod runs;
+mod tests;
 
-// What a change did: the overall verdict by the table, how many lines name the variable, how many verdicts became different, and how many bits of the value.
+// What a change did: the overall verdict by the table, how many lines it concerned, how many verdicts became different, and how many bits of the value.
 pub struct Effect {
     pub overall: Overall,
     pub named: usize,

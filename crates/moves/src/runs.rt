@@ -1,9 +1,15 @@
-// A change on the first entries of two tables, as callers make it.
+// Changes on the first entries of two tables, as callers make them.
 use super::ChangeReply;
-use super::change::change;
+use super::change::change_read;
 ghost use mathlib.Core.Path.{_≡_};
+ghost use mathlib.Core.Option.{none, some};
 ghost use Prim.Native.Nat.{min};
-ghost use Rattle.moves.specs.Run.{frontOutcome};
+ghost use Rattle.index.specs.Index.{indexOf};
+ghost use Rattle.moves.specs.Step.{tablesOf};
+ghost use Rattle.moves.specs.Gate.{changing};
+ghost use Rattle.moves.specs.Change.{changeOutcome};
+ghost use Rattle.moves.specs.Run.{turnOutcome};
+ghost use Rattle.moves.specs.Internal.{indexIf};
 
 // The smaller of two numbers.
 fn least(a: usize, b: usize) -> usize
@@ -12,7 +18,36 @@ fn least(a: usize, b: usize) -> usize
     if a < b { a } else { b }
 }
 
-// Lends the first p values and the first q verdicts, or as many as there are.
+// Lends the first p values and the first q verdicts, or as many as there are; `through` says whether the change goes through the index.
+fn change_lent(
+    constraint: &[u8],
+    values: &mut [u64],
+    p: usize,
+    verdicts: &mut [u8],
+    q: usize,
+    through: bool,
+    starts: &[u32],
+    lists: &[u32],
+    i: usize,
+    v: u64,
+) -> ChangeReply
+    ensures { λ r. ⌜ record { reply = r; tables = tablesOf (now (values .exit)) (now (verdicts .exit)) } ≡ turnOutcome changeOutcome (now (constraint .entry)) (tablesOf (now (values .entry)) (now (verdicts .entry))) (record { call = changing i v (indexIf through (now (starts .entry)) (now (lists .entry))); lent = record { values = p; verdicts = q } }) ⌝ }
+{
+    let k = least(p, values.len());
+    let l = least(q, verdicts.len());
+    change_read(
+        constraint,
+        &mut values[..k],
+        &mut verdicts[..l],
+        through,
+        starts,
+        lists,
+        i,
+        v,
+    )
+}
+
+// A change on the first p values and the first q verdicts.
 pub fn change_front(
     constraint: &[u8],
     values: &mut [u64],
@@ -22,9 +57,47 @@ pub fn change_front(
     i: usize,
     v: u64,
 ) -> ChangeReply
-    ensures { λ r. ⌜ record { reply = r; values = now (values .exit); verdicts = now (verdicts .exit) } ≡ frontOutcome (now (constraint .entry)) (now (values .entry)) (now (verdicts .entry)) (record { variable = i; value = v; valuesLent = p; verdictsLent = q }) ⌝ }
+    ensures { λ r. ⌜ record { reply = r; tables = tablesOf (now (values .exit)) (now (verdicts .exit)) } ≡ turnOutcome changeOutcome (now (constraint .entry)) (tablesOf (now (values .entry)) (now (verdicts .entry))) (record { call = changing i v none; lent = record { values = p; verdicts = q } }) ⌝ }
 {
-    let k = least(p, values.len());
-    let l = least(q, verdicts.len());
-    change(constraint, &mut values[..k], &mut verdicts[..l], i, v)
+    let unused = [0u32; 0];
+    change_lent(
+        constraint,
+        values,
+        p,
+        verdicts,
+        q,
+        false,
+        &unused,
+        &unused,
+        i,
+        v,
+    )
+}
+
+// The same through an index.
+pub fn change_front_through(
+    constraint: &[u8],
+    values: &mut [u64],
+    p: usize,
+    verdicts: &mut [u8],
+    q: usize,
+    starts: &[u32],
+    lists: &[u32],
+    i: usize,
+    v: u64,
+) -> ChangeReply
+    ensures { λ r. ⌜ record { reply = r; tables = tablesOf (now (values .exit)) (now (verdicts .exit)) } ≡ turnOutcome changeOutcome (now (constraint .entry)) (tablesOf (now (values .entry)) (now (verdicts .entry))) (record { call = changing i v (some (indexOf (now (starts .entry)) (now (lists .entry)))); lent = record { values = p; verdicts = q } }) ⌝ }
+{
+    change_lent(
+        constraint,
+        values,
+        p,
+        verdicts,
+        q,
+        true,
+        starts,
+        lists,
+        i,
+        v,
+    )
 }

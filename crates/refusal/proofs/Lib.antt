@@ -4,3 +4,5 @@ pub mod ListLaws
 pub mod BoolLaws
 pub mod RefusesLaws
 pub mod EndsLaws
+pub mod OneOfLaws
+pub mod ManyLaws

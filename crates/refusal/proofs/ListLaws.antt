@@ -1,5 +1,5 @@
 -- Elements that pass a test: all of them, the first of them; things that are there or not; what is made of each element, joined. Assumes nothing.
-use Prim.Native.Nat.{ℕ, suc, _+_, _≤_, _<_}
+use Prim.Native.Nat.{ℕ, zero, suc, _+_, _≤_, _<_}
 use mathlib.Core.Path.{_≡_, refl, _∙_}
 use mathlib.Core.Bool.{Bool, true, false, not, cond}
 use mathlib.Core.List.{List, [], _∷_, _++_, map, flatMap, nil≢cons, cons≢nil, head-eq-of-cons-eq, tail-eq-of-cons-eq, map-append}
@@ -111,6 +111,29 @@ pub every-weaken : {A : Type 0} (p q : A → Bool) → ((a : A) → p a ≡ true
 unfolding every
 every-weaken p q f [] h = refl
 every-weaken p q f (b ∷ s) h = let z = and-true (p b) (every p s) h in rw (f b (z .0)) (every-weaken p q f s (z .1))
+
+-- where each passes all do, and where all do each does
+module _ {A : Type 0} (test : A → Bool) (d : A) where
+  pub every-at : (l : List A) → ((i : ℕ) → i < length l → test (getD l i d) ≡ true) → every test l ≡ true
+  unfolding every
+  every-at [] h = refl
+  every-at (x ∷ l) h = rw (h 0 (omega arith)) (every-at l (λ i q. h (suc i) (omega arith)))
+
+  pub every-get : (l : List A) (i : ℕ) → every test l ≡ true → i < length l → test (getD l i d) ≡ true
+  unfolding every
+  every-get [] i e h = let z : ⊥ = omega arith in absurd z
+  every-get (x ∷ l) zero e h = and-true (test x) (every test l) e .0
+  every-get (x ∷ l) (suc i) e h = every-get l i (and-true (test x) (every test l) e .1) (omega arith)
+
+  -- from place i to the next
+  module _ (l : List A) (i : ℕ) (h : i < length l) where
+    pub every-stops : test (getD l i d) ≡ false → every test (drop i l) ≡ false
+    unfolding every
+    every-stops k = rw (drop-cons l i d h, k)
+
+    pub every-next : test (getD l i d) ≡ true → every test (drop i l) ≡ every test (drop (i + 1) l)
+    unfolding every
+    every-next k = rw (drop-cons l i d h, k, add-one i)
 
 -- one that does not pass
 pub every-broken : {A : Type 0} (p : A → Bool) (s : List A) (a : A) (t : List A) → p a ≡ false → every p (s ++ a ∷ t) ≡ false

@@ -69,6 +69,25 @@ pub ensure-accepted : {B : Type 0} (t : Bool) (r : Refusal) (next : Result B) (b
 ensure-accepted true r next b e = (refl, e)
 ensure-accepted false r next b e = never (cc e)
 
+-- a step without a value, then the next
+pub then-accepted : {B : Type 0} (m : Result (Unit {0})) (next : Result B) (b : B) → (m >> next) ≡ accepted b → (m ≡ accepted tt) × (next ≡ accepted b)
+then-accepted (accepted tt) next b e = (refl, e)
+then-accepted (refused r) next b e = never (cc e)
+
+-- a test, and no fault, with nothing behind them
+pub test-accepted : (t : Bool) (r : Refusal) → ensure t r ≡ accepted tt → t ≡ true
+test-accepted true r e = refl
+test-accepted false r e = never (cc e)
+
+pub none-accepted : (o : Option ℕ) (r : ℕ → Refusal) → ensureNone o r ≡ accepted tt → o ≡ none
+none-accepted none r e = refl
+none-accepted (some i) r e = never (cc e)
+
+-- a step, and then nothing
+pub then-done : (r : Result (Unit {0})) → (r >> accepted tt) ≡ r
+then-done (accepted tt) = refl
+then-done (refused r) = refl
+
 pub given-accepted : {A : Type 0} (o : Option A) (r : Refusal) (a : A) → given o r ≡ accepted a → o ≡ some a
 given-accepted (some b) r a e = let z : b ≡ a = cc e in rw z
 given-accepted none r a e = never (cc e)

@@ -1,12 +1,13 @@
 -- Every reply is in range, so its word loses nothing of it. Assumes nothing.
 use Prim.Native.Nat.{ℕ, _≤_}
-use mathlib.Core.Path.{_≡_, refl, ap}
+use mathlib.Core.Path.{_≡_, refl, sym, ap, _∙_}
 use mathlib.Core.List.{List, []}
 use native.Mathlib.Omega.{arith}
-use lib.ListN.{length, getD, set, length-take}
+use lib.ListN.{length, getD, set}
 use lib.Seq.{length-take-le}
 use Rattle.edition.specs.Word.{wordBits}
 use Rattle.refusal.specs.Result.{Result, accepted, refused, _>>=_}
+use Rattle.refusal.proofs.ManyLaws.{many-most}
 use Rattle.arithmetic.proofs.PlaceLaws.{bits-most}
 use Rattle.constraint.specs.File.{File}
 use Rattle.constraint.specs.Read.{readFile}
@@ -25,14 +26,21 @@ use Rattle.tables.specs.Check.{checking, checked, checkOutcome}
 use Rattle.clean.specs.Clean.{cleaning, cleanOutcome}
 use Rattle.clean.specs.Claims.{Cleans}
 use Rattle.clean.proofs.ClaimLaws.{reads-back, never-longer}
-use Rattle.moves.specs.Change.{names, renewed, changingFor, accept, changed, changeBy, changeOutcome}
+use Rattle.index.specs.Index.{indexing, indexed, indexOutcome}
+use Rattle.index.specs.AnyIndex.{concerned}
+use Rattle.index.proofs.SelectLaws.{concerned-length}
+use Rattle.index.proofs.CountLaws.{lists-at-most}
+use Rattle.index.proofs.BuiltLaws.{indexing-yields}
+use Rattle.moves.specs.Step.{Tables, renewed, step}
+use Rattle.moves.specs.Gate.{Call, admitted}
+use Rattle.moves.specs.Change.{made, changed, changeBy, changeOutcome}
 use Rattle.tables.proofs.CheckingLaws.{checking-steps}
 use Rattle.moves.proofs.RenewLaws.{renewed-length}
-use Rattle.moves.proofs.GateLaws.{Passed, changing-passed}
-use Rattle.spear.specs.Pack.{decidingLine, CheckKept, ChangeKept, CleanKept, WriteKept}
-use Rattle.spear.proofs.PackLaws.{CheckFits, ChangeFits, WriteFits, check-back, change-back, write-back}
-use Rattle.spear.proofs.MostLaws.{many-most, differing-most}
-use Rattle.spear.proofs.RefusalFitsLaws.{file-fits, checking-fits, changing-fits, writing-fits, cleaning-fits}
+use Rattle.moves.proofs.GateLaws.{Admitted, admitted-passed}
+use Rattle.spear.specs.Pack.{decidingLine, CheckKept, ChangeKept, IndexKept, CleanKept, WriteKept}
+use Rattle.spear.proofs.PackLaws.{CheckFits, ChangeFits, WriteFits, IndexFits, check-back, change-back, write-back, index-back}
+use Rattle.spear.proofs.MostLaws.{differing-most}
+use Rattle.spear.proofs.RefusalFitsLaws.{file-fits, checking-fits, admitted-fits, indexing-fits, writing-fits, cleaning-fits}
 
 -- ---- the line of an overall verdict
 named-most : (o : Overall) (vs : List ℕ) → Named o vs → decidingLine o ≤ length vs
@@ -55,30 +63,39 @@ module _ (constraint answer values verdicts : List ℕ) where
   check-fits = checked-fits (checking constraint answer values verdicts) refl
 
 -- ---- the change
-module _ (values verdicts : List ℕ) (i v : ℕ) where
-  accept-fits : (f : File) → SoundFile f → Passed f values verdicts i v → ChangeFits (accept f values verdicts i v .reply)
-  unfolding accept
-  accept-fits f sound p =
-      let row = rowInUse f values in
-      let before = verdictsInUse f verdicts in
-      let after = renewed f (set row i v) i before in
+module _ (t : Tables) (c : Call) where
+  made-fits : (f : File) → SoundFile f → Admitted f t c → ChangeFits (made f t c .reply)
+  unfolding made step
+  made-fits f sound p =
+      let m = length (f .lines) in
+      let i = c .change .variable in
+      let row = set (rowInUse f (t .values)) i (c .change .value) in
+      let held = verdictsInUse f (t .verdicts) in
+      let held-long = length-take-le m (t .verdicts) (p .is-entitled .verdicts-room) in
+      let lines = concerned f (c .index) i in
+      let lines-long = concerned-length f (c .index) i in
+      let new = renewed lines (freshVerdicts f row) held in
+      let new-long = renewed-length lines (freshVerdicts f row) held (lines-long ∙ sym held-long) (verdicts-length (f .variables) row (f .lines) ∙ sym held-long) in
       record {
-        line = omega (arith, line-most after, renewed-length f (set row i v) i before (length-take-le (length (f .lines)) verdicts (p .verdicts-room)), sound .few-lines);
-        named = omega (arith, many-most (names i) (f .lines), sound .few-lines);
-        altered = omega (arith, differing-most before after, length-take (length (f .lines)) verdicts, sound .few-lines);
-        bits = omega (arith, bits-most wordBits (getD row i 0) v);
+        line = omega (arith, line-most new, new-long, held-long, sound .few-lines);
+        named = omega (arith, many-most (λ b. b) lines, lines-long, sound .few-lines);
+        altered = omega (arith, differing-most held new, held-long, sound .few-lines);
+        bits = omega (arith, bits-most wordBits (getD (rowInUse f (t .values)) i 0) (c .change .value));
       }
 
-  changed-fits : (f : File) → SoundFile f → (r : Result (Unit {0})) → changingFor f values verdicts i v ≡ r → ChangeFits (changed f values verdicts i v r .reply)
-  changed-fits f sound (accepted tt) e = accept-fits f sound (changing-passed f values verdicts i v e)
-  changed-fits f sound (refused x) e = changing-fits f sound values verdicts i v .holds x e
+  changed-fits : (f : File) → SoundFile f → (r : Result (Unit {0})) → admitted f t c ≡ r → ChangeFits (changed f t c r .reply)
+  changed-fits f sound (accepted tt) e = made-fits f sound (admitted-passed f t c e)
+  changed-fits f sound (refused x) e = admitted-fits f sound t c .holds x e
 
-  by-fits : (constraint : List ℕ) (r : Result File) → readFile constraint ≡ r → ChangeFits (changeBy r values verdicts i v .reply)
-  by-fits constraint (accepted f) e = changed-fits f (accepted-is-sound constraint f e) (changingFor f values verdicts i v) refl
+  by-fits : (constraint : List ℕ) (r : Result File) → readFile constraint ≡ r → ChangeFits (changeBy r t c .reply)
+  by-fits constraint (accepted f) e = changed-fits f (accepted-is-sound constraint f e) (admitted f t c) refl
   by-fits constraint (refused x) e = file-fits constraint .holds x e
 
-  pub change-fits : (constraint : List ℕ) → ChangeFits (changeOutcome constraint values verdicts i v .reply)
-  change-fits constraint = by-fits constraint (readFile constraint) refl
+-- ---- the building of an index
+module _ (constraint starts lists : List ℕ) where
+  indexed-fits : (r : Result File) → indexing constraint starts lists ≡ r → IndexFits (indexed starts lists r .reply)
+  indexed-fits (accepted f) e = omega (arith, lists-at-most constraint f (indexing-yields constraint starts lists .holds f e))
+  indexed-fits (refused x) e = indexing-fits constraint starts lists .holds x e
 
 -- ---- the cleaning
 module _ (constraint output : List ℕ) where
@@ -104,7 +121,10 @@ pub check-kept : CheckKept
 check-kept constraint answer values verdicts = check-back (checkOutcome constraint answer values verdicts .reply) (check-fits constraint answer values verdicts)
 
 pub change-kept : ChangeKept
-change-kept constraint values verdicts i v = change-back (changeOutcome constraint values verdicts i v .reply) (change-fits values verdicts i v constraint)
+change-kept constraint t c = change-back (changeOutcome constraint t c .reply) (by-fits t c constraint (readFile constraint) refl)
+
+pub index-kept : IndexKept
+index-kept constraint starts lists = index-back (indexOutcome constraint starts lists .reply) (indexed-fits constraint starts lists (indexing constraint starts lists) refl)
 
 pub clean-kept : CleanKept
 clean-kept constraint output = write-back (cleanOutcome constraint output .reply) (cleaned-fits constraint output (cleaning constraint output) refl)

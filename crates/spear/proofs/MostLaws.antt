@@ -1,22 +1,12 @@
 -- What is counted is no more than what it is counted from. Assumes nothing.
-use Prim.Native.Nat.{ℕ, suc, _≤_}
-use mathlib.Core.Bool.{Bool, true, false, cond, not}
+use Prim.Native.Nat.{ℕ, _≤_}
+use mathlib.Core.Bool.{not}
 use mathlib.Core.List.{List, [], _∷_, zipWith}
 use native.Mathlib.Omega.{arith}
 use lib.Dec.{eqb}
 use lib.ListN.{length}
-use Rattle.refusal.specs.Lists.{howMany}
-use Rattle.moves.specs.Change.{differing}
-
--- ---- elements that pass a test
-one-more : (t : Bool) (k n : ℕ) → k ≤ n → cond t (suc k) k ≤ suc n
-one-more true k n h = omega arith
-one-more false k n h = omega arith
-
-pub many-most : {A : Type 0} (test : A → Bool) (xs : List A) → howMany test xs ≤ length xs
-unfolding howMany
-many-most test [] = omega arith
-many-most test (x ∷ xs) = one-more (test x) (howMany test xs) (length xs) (many-most test xs)
+use Rattle.refusal.proofs.ManyLaws.{many-most}
+use Rattle.moves.specs.Step.{differing}
 
 -- ---- two lists, element by element: no longer than the first
 pub zip-most : {A B C : Type 0} (f : A → B → C) (xs : List A) (ys : List B) → length (zipWith f xs ys) ≤ length xs

@@ -15,9 +15,11 @@ use Rattle.tables.specs.declared.CheckReply.{CheckReply}
 use Rattle.tables.specs.declared.CheckReply.the-variants.{Checked, Refused as CheckRefused}
 use Rattle.printing.specs.declared.WriteReply.{WriteReply}
 use Rattle.printing.specs.declared.WriteReply.the-variants.{Written, Refused as WriteRefused}
+use Rattle.index.specs.declared.IndexReply.{IndexReply}
+use Rattle.index.specs.declared.IndexReply.the-variants.{Indexed, Refused as IndexRefused}
 use Rattle.moves.specs.declared.ChangeReply.{ChangeReply}
 use Rattle.moves.specs.declared.ChangeReply.the-variants.{Changed, Refused}
-use Rattle.spear.specs.Pack.{verdictWord, refusalWord, doneWord, decidingLine, subjectNumber, packRefusal, packCheck, packChange, packWrite, kindRefused, kindDone, bitsFrom, kindIn, overallIn, subjectIn, refusalIn, checkIn, changeIn, writeIn}
+use Rattle.spear.specs.Pack.{verdictWord, refusalWord, doneWord, decidingLine, subjectNumber, packRefusal, packCheck, packChange, packWrite, packIndex, kindRefused, kindDone, bitsFrom, kindIn, overallIn, subjectIn, refusalIn, checkIn, changeIn, writeIn, indexIn}
 
 -- ---- the parts of a word are the numbers it was made of
 pub record VerdictParts (word kind line named altered bits : ℕ) : Type 0 where
@@ -116,6 +118,10 @@ abbrev pub WriteFits : WriteReply → Type 0
 WriteFits (Written n) = n < 2 ^ 56
 WriteFits (WriteRefused r) = RefusalFits r
 
+abbrev pub IndexFits : IndexReply → Type 0
+IndexFits (Indexed n) = n < 2 ^ 56
+IndexFits (IndexRefused r) = RefusalFits r
+
 -- it is what its word unpacks to
 pub check-back : (reply : CheckReply) → CheckFits reply → checkIn (packCheck reply) ≡ reply
 check-back (Checked o) h =
@@ -135,3 +141,7 @@ change-back (Refused r) h = rw (parts r h .kind-in) (ap Refused (refusal-back r 
 pub write-back : (reply : WriteReply) → WriteFits reply → writeIn (packWrite reply) ≡ reply
 write-back (Written n) h = let p = done-parts n h in rw (p .kind-in) (ap Written (p .length-in))
 write-back (WriteRefused r) h = rw (parts r h .kind-in) (ap WriteRefused (refusal-back r h))
+
+pub index-back : (reply : IndexReply) → IndexFits reply → indexIn (packIndex reply) ≡ reply
+index-back (Indexed n) h = let p = done-parts n h in rw (p .kind-in) (ap Indexed (p .length-in))
+index-back (IndexRefused r) h = rw (parts r h .kind-in) (ap IndexRefused (refusal-back r h))

@@ -2,14 +2,14 @@
 use Prim.Native.Nat.{ℕ, _≤_, _<_, _^_}
 use mathlib.Core.Path.{_≡_}
 use mathlib.Core.List.{List}
-use mathlib.Core.Option.{some}
+use mathlib.Core.Option.{Option, none, some}
 use native.Mathlib.Omega.{arith}
 use lib.Dec.{ltb, leb}
 use lib.ListN.{length, length-take}
 use Rattle.refusal.specs.declared.Refusal.{Refusal}
 use Rattle.refusal.specs.declared.Subject.{Subject}
-use Rattle.refusal.specs.declared.Subject.the-variants.{Values, Verdicts, Output, Call}
-use Rattle.refusal.specs.Numbers.{valueDoesNotFit, tooShort, notSatisfied, noSuchVariable, heldDoesNotFit}
+use Rattle.refusal.specs.declared.Subject.the-variants.{Values, Verdicts, Output, Call as CallsNumbers, Starts, Lists}
+use Rattle.refusal.specs.Numbers.{valueDoesNotFit, tooShort, notSatisfied, noSuchVariable, heldDoesNotFit, wrongIndex}
 use Rattle.refusal.specs.Lists.{firstFrom}
 use Rattle.refusal.specs.Result.{refusal}
 use Rattle.refusal.proofs.ListLaws.{first-below}
@@ -26,7 +26,10 @@ use Rattle.writer.specs.Write.{isSatisfied, writingFor}
 use Rattle.clean_text.specs.Text.{cleanText}
 use Rattle.tables.specs.Check.{checkingFor, checking}
 use Rattle.clean.specs.Clean.{cleaning}
-use Rattle.moves.specs.Change.{numbersFit, changingFor}
+use Rattle.index.specs.Index.{Index, ownIndex, indexing}
+use Rattle.index.specs.AnyIndex.{startsFit, listsFit, indexFits}
+use Rattle.moves.specs.Step.{Tables, Change}
+use Rattle.moves.specs.Gate.{Call, changeFits, entitled, admitted}
 use Rattle.spear.proofs.PackLaws.{RefusalFits}
 use Rattle.spear.proofs.FileNumberLaws.{FileNumber, file-numbered, answer-numbered}
 use Rattle.spear.proofs.MostLaws.{zip-most}
@@ -56,12 +59,18 @@ checking-fits constraint answer values verdicts =
     refuses-accepted)) λ row.
     refuses-accepted
 
--- ---- the change
-numbers-fit : (f : File) (i v : ℕ) → Refuses RefusalFits (numbersFit f i v)
-unfolding numbersFit
-numbers-fit f i v =
-    refuses-ensure (ltb i (length (f .variables))) _ (at-start Call noSuchVariable (omega arith))
-    (refuses-test (ltb v (2 ^ widthAt (f .variables) i)) _ (at-start Call valueDoesNotFit (omega arith)))
+-- ---- the numbers of a change, its index, and what it finds in the tables
+numbers-fit : (f : File) (c : Change) → Refuses RefusalFits (changeFits f c)
+unfolding changeFits
+numbers-fit f c =
+    refuses-ensure (ltb (c .variable) (length (f .variables))) _ (at-start CallsNumbers noSuchVariable (omega arith))
+    (refuses-test (ltb (c .value) (2 ^ widthAt (f .variables) (c .variable))) _ (at-start CallsNumbers valueDoesNotFit (omega arith)))
+
+index-fits : (f : File) (x : Option Index) → Refuses RefusalFits (indexFits f x)
+index-fits f none = refuses-accepted
+index-fits f (some x) =
+    refuses-ensure (startsFit (length (f .variables)) x) _ (at-start Starts wrongIndex (omega arith))
+    (refuses-test (listsFit (length (f .variables)) (length (f .lines)) x) _ (at-start Lists wrongIndex (omega arith)))
 
 -- no more values are held than there are variables
 held-most : (xs : List Variable) (values : List ℕ) → length (valueWords xs values) ≤ length xs
@@ -77,15 +86,6 @@ module _ (f : File) (sound : SoundFile f) (values verdicts : List ℕ) where
   verdict-place : (i : ℕ) → firstFrom (ltb verdictDisregarded) 0 (verdictsInUse f verdicts) ≡ some i → RefusalFits (refusal Verdicts heldDoesNotFit i)
   verdict-place i e = record { number = omega arith; position = omega (arith, first-below (ltb verdictDisregarded) 0 i (verdictsInUse f verdicts) e, length-take (length (f .lines)) verdicts, sound .few-lines) }
 
-  pub changing-fits : (i v : ℕ) → Refuses RefusalFits (changingFor f values verdicts i v)
-  unfolding changingFor
-  changing-fits i v =
-      refuses-ensure (leb (length (f .variables)) (length values)) _ (at-start Values tooShort (omega arith)) (
-      refuses-ensure (leb (length (f .lines)) (length verdicts)) _ (at-start Verdicts tooShort (omega arith)) (
-      refuses-then (numbers-fit f i v) (
-      refuses-then (refuses-none (firstUnfit (f .variables) (rowInUse f values)) _ unfit-place)
-      (refuses-none (firstFrom (ltb verdictDisregarded) 0 (verdictsInUse f verdicts)) _ verdict-place))))
-
   -- ---- the writing of an answer
   pub writing-fits : (output : List ℕ) → Refuses RefusalFits (writingFor f values output)
   unfolding writingFor
@@ -95,6 +95,26 @@ module _ (f : File) (sound : SoundFile f) (values verdicts : List ℕ) where
       refuses-ensure (isSatisfied (overallOf (freshVerdicts f (rowInUse f values)))) _ (at-start Values notSatisfied (omega arith)) (
       refuses-ensure (leb (length (answerText (f .variables) (rowInUse f values))) (length output)) _ (at-start Output tooShort (omega arith))
       refuses-accepted)))
+
+-- ---- the change
+pub admitted-fits : (f : File) → SoundFile f → (t : Tables) (c : Call) → Refuses RefusalFits (admitted f t c)
+unfolding admitted entitled
+admitted-fits f sound t c =
+    refuses-then (refuses-ensure (leb (length (f .variables)) (length (t .values))) _ (at-start Values tooShort (omega arith)) (
+    refuses-ensure (leb (length (f .lines)) (length (t .verdicts))) _ (at-start Verdicts tooShort (omega arith))
+    (numbers-fit f (c .change)))) (
+    refuses-then (refuses-none (firstUnfit (f .variables) (rowInUse f (t .values))) _ (unfit-place f sound (t .values) (t .verdicts))) (
+    refuses-then (refuses-none (firstFrom (ltb verdictDisregarded) 0 (verdictsInUse f (t .verdicts))) _ (verdict-place f sound (t .values) (t .verdicts)))
+    (index-fits f (c .index))))
+
+-- ---- the building of an index
+pub indexing-fits : (constraint starts lists : List ℕ) → Refuses RefusalFits (indexing constraint starts lists)
+unfolding indexing
+indexing-fits constraint starts lists =
+    refuses-bind (file-fits constraint) λ f.
+    refuses-ensure (leb (length (ownIndex f .starts)) (length starts)) _ (at-start Starts tooShort (omega arith)) (
+    refuses-ensure (leb (length (ownIndex f .lists)) (length lists)) _ (at-start Lists tooShort (omega arith))
+    refuses-accepted)
 
 -- ---- the cleaning
 pub cleaning-fits : (constraint output : List ℕ) → Refuses RefusalFits (cleaning constraint output)

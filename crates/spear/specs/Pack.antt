@@ -25,7 +25,12 @@ use Rattle.writer.specs.Write.{writeOutcome}
 use Rattle.tables.specs.Check.{CheckOutcome, checkOutcome}
 use Rattle.tables.specs.Claims.{Satisfies}
 use Rattle.clean.specs.Clean.{cleanOutcome}
-use Rattle.moves.specs.Change.{ChangeOutcome, changeOutcome}
+use Rattle.index.specs.declared.IndexReply.{IndexReply}
+use Rattle.index.specs.declared.IndexReply.the-variants.{Indexed, Refused as IndexRefused}
+use Rattle.index.specs.Index.{IndexOutcome, indexOutcome}
+use Rattle.moves.specs.Step.{Tables}
+use Rattle.moves.specs.Gate.{Call as ChangeCall}
+use Rattle.moves.specs.Change.{Outcome, changeOutcome}
 
 -- PACKING
 
@@ -41,11 +46,11 @@ kindRefused = 3
 unfoldable pub refusalWord : ℕ → ℕ → ℕ → ℕ
 refusalWord number subject position = kindRefused + number % 2 ^ 8 * 2 ^ 8 + subject % 2 ^ 8 * 2 ^ 16 + position % 2 ^ 40 * 2 ^ 24
 
--- the kind of a text that is written
+-- the kind of a text that is written, and of an index that is built
 abbrev pub kindDone : ℕ
 kindDone = 4
 
--- that kind in the lowest byte, and the text's length above it
+-- that kind in the lowest byte, and above it the text's length, or how many lines are listed
 unfoldable pub doneWord : ℕ → ℕ
 doneWord length = kindDone + length % 2 ^ 56 * 2 ^ 8
 
@@ -81,6 +86,10 @@ abbrev pub packWrite : WriteReply → ℕ
 packWrite (Written n) = doneWord n
 packWrite (WriteRefused r) = packRefusal r
 
+abbrev pub packIndex : IndexReply → ℕ
+packIndex (Indexed n) = doneWord n
+packIndex (IndexRefused r) = packRefusal r
+
 -- UNPACKING, as the macros of the header do it
 
 -- the n bits of a word from bit i on
@@ -111,6 +120,9 @@ changeIn word = cond (eqb (kindIn word) kindRefused) (Refused (refusalIn word)) 
 abbrev pub writeIn : ℕ → WriteReply
 writeIn word = cond (eqb (kindIn word) kindRefused) (WriteRefused (refusalIn word)) (Written (bitsFrom word 8 56))
 
+abbrev pub indexIn : ℕ → IndexReply
+indexIn word = cond (eqb (kindIn word) kindRefused) (IndexRefused (refusalIn word)) (Indexed (bitsFrom word 8 56))
+
 -- NOTHING IS LOST
 
 -- what a call answers is what its word unpacks to
@@ -118,7 +130,10 @@ abbrev pub CheckKept : Type 0
 CheckKept = (constraint answer values verdicts : List ℕ) → checkIn (packCheck (checkOutcome constraint answer values verdicts .reply)) ≡ checkOutcome constraint answer values verdicts .reply
 
 abbrev pub ChangeKept : Type 0
-ChangeKept = (constraint values verdicts : List ℕ) (i v : ℕ) → changeIn (packChange (changeOutcome constraint values verdicts i v .reply)) ≡ changeOutcome constraint values verdicts i v .reply
+ChangeKept = (constraint : List ℕ) (t : Tables) (c : ChangeCall) → changeIn (packChange (changeOutcome constraint t c .reply)) ≡ changeOutcome constraint t c .reply
+
+abbrev pub IndexKept : Type 0
+IndexKept = (constraint starts lists : List ℕ) → indexIn (packIndex (indexOutcome constraint starts lists .reply)) ≡ indexOutcome constraint starts lists .reply
 
 abbrev pub CleanKept : Type 0
 CleanKept = (constraint output : List ℕ) → writeIn (packWrite (cleanOutcome constraint output .reply)) ≡ cleanOutcome constraint output .reply
@@ -141,8 +156,17 @@ pub record Packed : Type 0 where
 abbrev pub packedCheck : CheckOutcome → Packed
 packedCheck o = record { word = packCheck (o .reply); values = o .values; verdicts = o .verdicts }
 
-abbrev pub packedChange : ChangeOutcome → Packed
-packedChange o = record { word = packChange (o .reply); values = o .values; verdicts = o .verdicts }
+abbrev pub packedChange : Outcome → Packed
+packedChange o = record { word = packChange (o .reply); values = o .tables .values; verdicts = o .tables .verdicts }
+
+-- of the building of an index: the word and its two tables at exit
+pub record PackedIndex : Type 0 where
+  pub word : ℕ
+  pub starts : List ℕ
+  pub lists : List ℕ
+
+abbrev pub packedIndex : IndexOutcome → PackedIndex
+packedIndex o = record { word = packIndex (o .reply); starts = o .starts; lists = o .lists }
 
 -- of a writer: the word and the output room at exit
 pub record PackedText : Type 0 where

@@ -1,6 +1,6 @@
 // The claims: each is the contract of an empty function, so that a check lists it by name.
 ghost use Rattle.spear.specs.Code.{ZeroExactly, CodesAre};
-ghost use Rattle.spear.specs.Pack.{KindZeroExactly, CheckKept, ChangeKept, CleanKept, WriteKept};
+ghost use Rattle.spear.specs.Pack.{KindZeroExactly, CheckKept, ChangeKept, IndexKept, CleanKept, WriteKept};
 
 // Demand 2: the number of a check is 0 exactly when its conditions hold.
 pub fn zero_exactly()
@@ -22,9 +22,14 @@ pub fn check_kept()
     ensures { λ _. ⌜ CheckKept ⌝ }
 {}
 
-// The word of a change loses nothing of its reply.
+// The word of a change, with or without an index, loses nothing of its reply.
 pub fn change_kept()
     ensures { λ _. ⌜ ChangeKept ⌝ }
+{}
+
+// The word of the building of an index loses nothing of its reply.
+pub fn index_kept()
+    ensures { λ _. ⌜ IndexKept ⌝ }
 {}
 
 // The word of a cleaning loses nothing of its reply.

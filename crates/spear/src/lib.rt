@@ -1,21 +1,28 @@
 // The calls for C programs. include/spear.h has their declarations.
 use clean::clean;
+use index::index;
 use judge::verdicts::overall_number;
 use moves::change::change;
+use moves::change::change_through;
 use packing::pack_change;
 use packing::pack_check;
+use packing::pack_index;
 use packing::pack_write;
 use tables::Report;
 use tables::check::check;
 use tables::reports::report;
 use writer::write;
 ghost use mathlib.Core.Path.{_≡_};
+ghost use mathlib.Core.Option.{none, some};
 ghost use Rattle.tables.specs.Check.{checkOutcome};
 ghost use Rattle.writer.specs.Write.{writeOutcome};
 ghost use Rattle.clean.specs.Clean.{cleanOutcome};
+ghost use Rattle.index.specs.Index.{indexOf, indexOutcome};
+ghost use Rattle.moves.specs.Step.{tablesOf};
+ghost use Rattle.moves.specs.Gate.{changing};
 ghost use Rattle.moves.specs.Change.{changeOutcome};
 ghost use Rattle.spear.specs.Code.{codeOf, checkCode};
-ghost use Rattle.spear.specs.Pack.{packedCheck, packedChange, packedWrite};
+ghost use Rattle.spear.specs.Pack.{packedCheck, packedChange, packedWrite, packedIndex};
 
 pub mod claims;
 mod packing;
@@ -62,9 +69,41 @@ pub extern "C" fn spear_change(
     variable: usize,
     value: u64,
 ) -> u64
-    ensures { λ r. ⌜ record { word = r; values = now (values .exit); verdicts = now (verdicts .exit) } ≡ packedChange (changeOutcome (now (constraints .entry)) (now (values .entry)) (now (verdicts .entry)) variable value) ⌝ }
+    ensures { λ r. ⌜ record { word = r; values = now (values .exit); verdicts = now (verdicts .exit) } ≡ packedChange (changeOutcome (now (constraints .entry)) (tablesOf (now (values .entry)) (now (verdicts .entry))) (changing variable value none)) ⌝ }
 {
     pack_change(change(constraints, values, verdicts, variable, value))
+}
+
+// The index of a constraint file, into the caller's two tables.
+#[no_mangle]
+pub extern "C" fn spear_index(constraints: &[u8], starts: &mut [u32], lists: &mut [u32]) -> u64
+    ensures { λ r. ⌜ record { word = r; starts = now (starts .exit); lists = now (lists .exit) } ≡ packedIndex (indexOutcome (now (constraints .entry)) (now (starts .entry)) (now (lists .entry))) ⌝ }
+{
+    pack_index(index(constraints, starts, lists))
+}
+
+// The change through an index.
+#[no_mangle]
+pub extern "C" fn spear_change_through(
+    constraints: &[u8],
+    values: &mut [u64],
+    verdicts: &mut [u8],
+    starts: &[u32],
+    lists: &[u32],
+    variable: usize,
+    value: u64,
+) -> u64
+    ensures { λ r. ⌜ record { word = r; values = now (values .exit); verdicts = now (verdicts .exit) } ≡ packedChange (changeOutcome (now (constraints .entry)) (tablesOf (now (values .entry)) (now (verdicts .entry))) (changing variable value (some (indexOf (now (starts .entry)) (now (lists .entry)))))) ⌝ }
+{
+    pack_change(change_through(
+        constraints,
+        values,
+        verdicts,
+        starts,
+        lists,
+        variable,
+        value,
+    ))
 }
 
 // The clean spelling of a constraint file, into the caller's room.

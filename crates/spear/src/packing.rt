@@ -1,4 +1,5 @@
 // A reply as one word.
+use index::IndexReply;
 use judge::Overall;
 use judge::verdicts::overall_number;
 use moves::ChangeReply;
@@ -8,7 +9,7 @@ use refusal::Subject;
 use tables::CheckReply;
 ghost use mathlib.Core.Path.{_≡_};
 ghost use Prim.Native.Nat.{_<_};
-ghost use Rattle.spear.specs.Pack.{verdictWord, refusalWord, doneWord, decidingLine, subjectNumber, packRefusal, packCheck, packChange, packWrite};
+ghost use Rattle.spear.specs.Pack.{verdictWord, refusalWord, doneWord, decidingLine, subjectNumber, packRefusal, packCheck, packChange, packWrite, packIndex};
 
 // The sizes of the parts: a byte, a number, a position, a length.
 const BYTE: u64 = 1 << 8;
@@ -30,7 +31,7 @@ const AT_40: u64 = 1 << 40;
 
 const AT_56: u64 = 1 << 56;
 
-// The kinds of a refusal, and of a text that is written.
+// The kinds of a refusal, and of a text that is written or an index that is built.
 const KIND_REFUSED: u64 = 3;
 
 const KIND_DONE: u64 = 4;
@@ -127,5 +128,14 @@ pub(crate) fn pack_write(reply: WriteReply) -> u64
     match reply {
         WriteReply::Written(n) => done_word(n as u64),
         WriteReply::Refused(r) => pack_refusal(r),
+    }
+}
+
+pub(crate) fn pack_index(reply: IndexReply) -> u64
+    ensures { λ r. ⌜ r ≡ packIndex reply ⌝ }
+{
+    match reply {
+        IndexReply::Indexed(n) => done_word(n as u64),
+        IndexReply::Refused(r) => pack_refusal(r),
     }
 }

@@ -6,6 +6,5 @@ pub mod SatisfiedLaws
 pub mod SameContentsLaws
 pub mod ExampleLaws
 pub mod CheckLaws
-pub mod CountLaws
 pub mod ReportLaws
 pub mod ReportedLaws

@@ -8,7 +8,7 @@ use lib.ListN.{length, getD, drop}
 use borrow.Author.Needs.{needs}
 use borrow.Author.Tests.{eq-eqb, ne-eqb}
 use Rattle.refusal.specs.Lists.{howMany}
-use Rattle.tables.proofs.CountLaws.{many-here, many-later, many-nowhere}
+use Rattle.refusal.proofs.ManyLaws.{many-here, many-later, many-nowhere}
 use Rattle.tables.proofs.reports.count.Statement.{statement}
 use Rattle.tables.proofs.reports.count.Tie as tie
 
