@@ -18,12 +18,10 @@ use Rattle.judge.specs.Judge.{freshVerdicts, overallOf}
 use Rattle.judge.specs.InUse.{rowInUse}
 use Rattle.judge.specs.Claims.{RowFits}
 use Rattle.judge.proofs.FitLaws.{row-fits}
-use Rattle.judge.proofs.VerdictLaws.{verdicts-length}
 use Rattle.index.specs.Select.{naming}
 use Rattle.index.specs.Index.{Index}
 use Rattle.index.specs.AnyIndex.{concerned}
 use Rattle.index.specs.Internal.{fileOf}
-use Rattle.index.proofs.SelectLaws.{concerned-length}
 use Rattle.index.proofs.ListedLaws.{starts-there, starts-rise, starts-within, listed-fits}
 use Rattle.moves.specs.declared.Renewal.{Renewal}
 use Rattle.moves.specs.declared.ChangeReply.the-variants.{Changed, Refused}
@@ -32,7 +30,7 @@ use Rattle.moves.specs.Gate.{Call, changing, changeFits, entitled, admit
 use Rattle.moves.specs.Change.{Outcome, made, changed, changeFor}
 use Rattle.moves.specs.Internal.{Renewed, ListFitting}
 use Rattle.moves.proofs.GateLaws.{Sized, Admitted}
-use Rattle.moves.proofs.RenewLaws.{renewed-length}
+use Rattle.moves.proofs.RenewLaws.{new-long}
 
 -- ---- refused or accepted
 module _ (f : File) (t : Tables) (c : Call) where
@@ -109,6 +107,6 @@ module _ (f : File) (values verdicts : List ℕ) (i v : ℕ) (x : Option Index) 
         let held = take m verdicts in
         let held-long = length-take-le m verdicts (omega (arith, p .is-entitled .verdicts-room, sized .lines)) in
         let new = renewed (concerned f x i) (freshVerdicts f row) held in
-        let new-long : length new ≡ m = renewed-length (concerned f x i) (freshVerdicts f row) held (concerned-length f x i ∙ sized .lines ∙ sym held-long) (verdicts-length (f .variables) row (f .lines) ∙ sized .lines ∙ sym held-long) ∙ held-long in
+        let many : length new ≡ m = new-long f x i row held (held-long ∙ sym (sized .lines)) ∙ held-long in
         let is : after ≡ new ++ drop m verdicts = rw row-stored at (d .made) in
-        rw (e, d .counted, rw row-stored at (d .differed), is, take-at new (drop m verdicts) m new-long, values-stored, sized .lines, getD-take (length (f .variables)) values i 0 (p .is-entitled .variable))
+        rw (e, d .counted, rw row-stored at (d .differed), is, take-at new (drop m verdicts) m many, values-stored, sized .lines, getD-take (length (f .variables)) values i 0 (p .is-entitled .variable))

@@ -3,6 +3,7 @@ use Prim.Native.Nat.{ℕ, zero, suc, _+_, _-_, _≤_, _<_}
 use mathlib.Core.Path.{_≡_, refl, sym, ap, _∙_}
 use mathlib.Core.Bool.{Bool, true, false, cond, not}
 use mathlib.Core.List.{List, [], _∷_, _++_, map, zipWith}
+use mathlib.Core.Option.{Option}
 use native.Mathlib.Numerals.{add-one}
 use native.Mathlib.Omega.{arith}
 use lib.Dec.{eqb}
@@ -21,9 +22,9 @@ use Rattle.judge.specs.Judge.{judge, verdictsOf, freshVerdicts}
 use Rattle.judge.proofs.VerdictLaws.{verdicts-length}
 use Rattle.index.specs.Select.{names, naming, selected}
 use Rattle.index.specs.Index.{Index}
-use Rattle.index.specs.AnyIndex.{listIn, numbered, listFits}
+use Rattle.index.specs.AnyIndex.{listIn, numbered, concerned, listFits}
 use Rattle.index.specs.Internal.{fileOf}
-use Rattle.index.proofs.SelectLaws.{numbered-length, numbered-none, numbered-nothing, numbered-more}
+use Rattle.index.proofs.SelectLaws.{numbered-length, concerned-length, numbered-none, numbered-nothing, numbered-more}
 use Rattle.index.proofs.ListedLaws.{list-rises, rising-at, rising-new}
 use Rattle.moves.specs.declared.Renewal.{Renewal}
 use Rattle.moves.specs.Step.{renewed, differing}
@@ -55,6 +56,17 @@ renewed-at bs [] (y ∷ held) j l h e = let z : ⊥ = omega arith in absurd z
 renewed-at [] (x ∷ fresh) (y ∷ held) j l h e = never (cc e)
 renewed-at (b ∷ bs) (x ∷ fresh) (y ∷ held) zero l h e = rw e
 renewed-at (b ∷ bs) (x ∷ fresh) (y ∷ held) (suc j) l h e = renewed-at bs fresh held j (omega arith) (omega arith) e
+
+-- ---- the verdicts of a file, those of the lines concerned made anew: as many as before
+module _ (f : File) (x : Option Index) (i : ℕ) (row held : List ℕ) (many : length held ≡ length (f .lines)) where
+  pub lines-long : length (concerned f x i) ≡ length held
+  lines-long = concerned-length f x i ∙ sym many
+
+  pub fresh-long : length (freshVerdicts f row) ≡ length held
+  fresh-long = verdicts-length (f .variables) row (f .lines) ∙ sym many
+
+  pub new-long : length (renewed (concerned f x i) (freshVerdicts f row) held) ≡ length held
+  new-long = renewed-length (concerned f x i) (freshVerdicts f row) held lines-long fresh-long
 
 -- ---- no entry
 renewed-none : (m : ℕ) (fresh held : List ℕ) → length fresh ≡ m → length held ≡ m → renewed (replicate m false) fresh held ≡ held

@@ -34,14 +34,14 @@ pub record State (f : File) (row : List ℕ) (base t : Tables) : Type 0 where
   pub values-are : t .values ≡ row ++ drop (length (f .variables)) (base .values)
   pub verdicts-are : t .verdicts ≡ freshVerdicts f row ++ drop (length (f .lines)) (base .verdicts)
 
-pub fresh-long : (f : File) (row : List ℕ) → length (freshVerdicts f row) ≡ length (f .lines)
-fresh-long f row = verdicts-length (f .variables) row (f .lines)
+pub fresh-many : (f : File) (row : List ℕ) → length (freshVerdicts f row) ≡ length (f .lines)
+fresh-many f row = verdicts-length (f .variables) row (f .lines)
 
 -- what a turn is lent of one state it is lent of another
 of-state : (f : File) (row row′ : List ℕ) (base t t′ : Tables) → State f row base t → State f row′ base t′ → (u : Turn) → OfRun f t u → OfRun f t′ u
 of-state f row row′ base t t′ s s′ u o = record {
   values = rw (columns-long row row′ (drop (length (f .variables)) (base .values)) (t .values) (t′ .values) (s .long ∙ sym (s′ .long)) (s .values-are) (s′ .values-are)) at (o .values);
-  verdicts = rw (columns-long (freshVerdicts f row) (freshVerdicts f row′) (drop (length (f .lines)) (base .verdicts)) (t .verdicts) (t′ .verdicts) (fresh-long f row ∙ sym (fresh-long f row′)) (s .verdicts-are) (s′ .verdicts-are)) at (o .verdicts);
+  verdicts = rw (columns-long (freshVerdicts f row) (freshVerdicts f row′) (drop (length (f .lines)) (base .verdicts)) (t .verdicts) (t′ .verdicts) (fresh-many f row ∙ sym (fresh-many f row′)) (s .verdicts-are) (s′ .verdicts-are)) at (o .verdicts);
   index = o .index;
 }
 
@@ -61,7 +61,7 @@ module _ (f : File) (row : List ℕ) (base t : Tables) (s : State f row base t) 
       let m = length (f .lines) in
       rw (
         column-lent row (drop n (base .values)) (t .values) n (s .long) (s .values-are) (u .lent .values) (e .values-room),
-        column-lent (freshVerdicts f row) (drop m (base .verdicts)) (t .verdicts) m (fresh-long f row) (s .verdicts-are) (u .lent .verdicts) (e .verdicts-room),
+        column-lent (freshVerdicts f row) (drop m (base .verdicts)) (t .verdicts) m (fresh-many f row) (s .verdicts-are) (u .lent .verdicts) (e .verdicts-room),
       )
 
   -- the tests are the model's: neither 24 nor 25 arises
@@ -107,7 +107,7 @@ module _ (f : File) (row : List ℕ) (base t : Tables) (s : State f row base t) 
               ∙ column-put row (drop n (base .values)) (t .values) n (s .long) (s .values-are) (u .lent .values) (o .values) (e .values-room) after;
           verdicts-are =
               ap (λ (z : Tables). (z .verdicts ++ drop m (lent .verdicts)) ++ drop (u .lent .verdicts) (t .verdicts)) new
-              ∙ column-put (freshVerdicts f row) (drop m (base .verdicts)) (t .verdicts) m (fresh-long f row) (s .verdicts-are) (u .lent .verdicts) (o .verdicts) (e .verdicts-room) (freshVerdicts f after);
+              ∙ column-put (freshVerdicts f row) (drop m (base .verdicts)) (t .verdicts) m (fresh-many f row) (s .verdicts-are) (u .lent .verdicts) (o .verdicts) (e .verdicts-room) (freshVerdicts f after);
         };
       }
 
@@ -123,7 +123,7 @@ module _ (f : File) (row : List ℕ) (base t : Tables) (s : State f row base t) 
           long = s .long;
           fits = s .fits;
           values-are = column-back row (drop n (base .values)) (t .values) n (s .long) (s .values-are) (u .lent .values);
-          verdicts-are = column-back (freshVerdicts f row) (drop m (base .verdicts)) (t .verdicts) m (fresh-long f row) (s .verdicts-are) (u .lent .verdicts);
+          verdicts-are = column-back (freshVerdicts f row) (drop m (base .verdicts)) (t .verdicts) m (fresh-many f row) (s .verdicts-are) (u .lent .verdicts);
         };
       }
 

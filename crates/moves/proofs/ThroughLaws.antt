@@ -11,11 +11,10 @@ use Rattle.refusal.proofs.ResultLaws.{never, then-done}
 use Rattle.constraint.specs.File.{File}
 use Rattle.judge.specs.Judge.{freshVerdicts}
 use Rattle.judge.specs.InUse.{rowInUse, verdictsInUse}
-use Rattle.judge.proofs.VerdictLaws.{verdicts-length}
 use Rattle.index.specs.Index.{Index}
 use Rattle.index.specs.AnyIndex.{listIn, concerned}
 use Rattle.index.specs.Claims.{IsOwn}
-use Rattle.index.proofs.SelectLaws.{concerned-length, numbered-at, numbered-none}
+use Rattle.index.proofs.SelectLaws.{numbered-at, numbered-none}
 use Rattle.index.proofs.ListedLaws.{named-listed}
 use Rattle.index.proofs.OwnIndexLaws.{concerned-own, index-fits-own}
 use Rattle.moves.specs.declared.Effect.{Effect}
@@ -25,7 +24,7 @@ use Rattle.moves.specs.Step.{Tables, renewed, step}
 use Rattle.moves.specs.Gate.{changing, admitted}
 use Rattle.moves.specs.Change.{made, changed}
 use Rattle.moves.specs.Through.{OwnIndexSame, JustListed, RenewsJustListed}
-use Rattle.moves.proofs.RenewLaws.{renewed-length, renewed-at}
+use Rattle.moves.proofs.RenewLaws.{renewed-at, fresh-long, new-long}
 use Rattle.moves.proofs.GateLaws.{gate-then, Admitted, admitted-passed}
 use Rattle.moves.proofs.ChangeLaws.{values-stored}
 use Rattle.moves.proofs.TouchLaws.{made-touches}
@@ -58,17 +57,14 @@ module _ (f : File) (t : Tables) (i v : ℕ) (x : Index) (e : Effect) where
       let row = set (rowInUse f (t .values)) i v in
       let held = verdictsInUse f (t .verdicts) in
       let held-long = length-take-le m (t .verdicts) (p .is-entitled .verdicts-room) in
-      let sel-long : length sel ≡ length held = concerned-length f (some x) i ∙ sym held-long in
-      let fresh-long : length (freshVerdicts f row) ≡ length held = verdicts-length (f .variables) row (f .lines) ∙ sym held-long in
-      let new-long = renewed-length sel (freshVerdicts f row) held sel-long fresh-long in
       let row-is : rowInUse f (row ++ drop n (t .values)) ≡ row = take-at row (drop n (t .values)) n (length-set (rowInUse f (t .values)) i v ∙ length-take-le n (t .values) (p .is-entitled .values-room)) in
       record {
         named = sym (ap namedOf k) ∙ named-listed f x i (p .index-fits) (p .is-entitled .variable);
         values-are = values-stored f (t .values) (t .verdicts) i v (some x) p;
         listed-verdicts = λ j h q.
             let picked : getD sel j false ≡ true = numbered-at (listIn x i) 1 (f .lines) j h ∙ q in
-            rw row-is (List·getD-append (renewed sel (freshVerdicts f row) held) (drop m (t .verdicts)) 0 j (rw (new-long, held-long) h)
-            ∙ renewed-at sel (freshVerdicts f row) held j fresh-long (rw held-long h) picked);
+            rw row-is (List·getD-append (renewed sel (freshVerdicts f row) held) (drop m (t .verdicts)) 0 j (rw (new-long f (some x) i row held held-long, held-long) h)
+            ∙ renewed-at sel (freshVerdicts f row) held j (fresh-long f (some x) i row held held-long) (rw held-long h) picked);
         other-verdicts = λ j q. made-touches f t (changing i v (some x)) p .other-verdicts j (numbered-none (listIn x i) 1 (f .lines) j q);
       }
 

@@ -1,6 +1,6 @@
 -- What a change leaves as it was. Assumes nothing.
 use Prim.Native.Nat.{ℕ, suc, _<_}
-use mathlib.Core.Path.{_≡_, refl, sym, ap, _∙_}
+use mathlib.Core.Path.{_≡_, refl, ap, _∙_}
 use mathlib.Core.Bool.{Bool}
 use mathlib.Core.List.{List, [], _∷_}
 use lib.ListN.{length, getD, set, length-set, take-append-drop}
@@ -13,10 +13,8 @@ use Rattle.constraint.specs.Read.{readFile}
 use Rattle.constraint.specs.Sound.{Each}
 use Rattle.judge.specs.Judge.{freshVerdicts}
 use Rattle.judge.specs.InUse.{rowInUse, verdictsInUse}
-use Rattle.judge.proofs.VerdictLaws.{verdicts-length}
 use Rattle.index.specs.Select.{naming}
 use Rattle.index.specs.AnyIndex.{concerned}
-use Rattle.index.proofs.SelectLaws.{concerned-length}
 use Rattle.index.proofs.OwnIndexLaws.{concerned-naming}
 use Rattle.moves.specs.declared.ChangeReply.the-variants.{Refused}
 use Rattle.moves.specs.Step.{Tables, renewed, step}
@@ -25,7 +23,7 @@ use Rattle.moves.specs.Change.{Outcome, made, changed, changeBy, changeO
 use Rattle.moves.specs.Run.{Turn, fronts, putBack, turnOutcome, EachTurn, theChange}
 use Rattle.moves.specs.WholeRun.{OfRun, TouchesOnly, TouchesNoOther, RefusedTouchesNothing}
 use Rattle.moves.proofs.ColumnLaws.{place-kept}
-use Rattle.moves.proofs.RenewLaws.{renewed-length, renewed-other}
+use Rattle.moves.proofs.RenewLaws.{renewed-other, lines-long, fresh-long, new-long}
 use Rattle.moves.proofs.GateLaws.{Admitted, admitted-passed}
 use Rattle.moves.proofs.ChangeLaws.{values-stored}
 
@@ -42,15 +40,13 @@ module _ (f : File) (t : Tables) (c : Call) where
       let row = set (rowInUse f (t .values)) variable (c .change .value) in
       let held = verdictsInUse f (t .verdicts) in
       let held-long = length-take-le m (t .verdicts) (p .is-entitled .verdicts-room) in
-      let sel-long : length sel ≡ length held = concerned-length f (c .index) variable ∙ sym held-long in
-      let fresh-long : length (freshVerdicts f row) ≡ length held = verdicts-length (f .variables) row (f .lines) ∙ sym held-long in
-      let new-long = renewed-length sel (freshVerdicts f row) held sel-long fresh-long in
+      let many = new-long f (c .index) variable row held held-long in
       let stored = values-stored f (t .values) (t .verdicts) variable (c .change .value) (c .index) p in
       record {
         other-values = λ j h. ap (λ (l : List ℕ). getD l j 0) stored ∙ getD-set-other (t .values) variable j (c .change .value) 0 h;
         values-long = ap length stored ∙ length-set (t .values) variable (c .change .value);
-        other-verdicts = λ j e. place-kept (renewed sel (freshVerdicts f row) held) (t .verdicts) m j new-long (renewed-other sel (freshVerdicts f row) held j sel-long fresh-long e);
-        verdicts-long = length-front (t .verdicts) (renewed sel (freshVerdicts f row) held) m new-long;
+        other-verdicts = λ j e. place-kept (renewed sel (freshVerdicts f row) held) (t .verdicts) m j many (renewed-other sel (freshVerdicts f row) held j (lines-long f (c .index) variable row held held-long) (fresh-long f (c .index) variable row held held-long) e);
+        verdicts-long = length-front (t .verdicts) (renewed sel (freshVerdicts f row) held) m many;
         refused-nothing = λ r e. never (cc e);
       }
 

@@ -25,7 +25,7 @@ use Rattle.moves.specs.Run.{Turn, fronts, putBack, turnOutcome, tablesAf
 use Rattle.moves.specs.WholeRun.{AcceptedCheck, NotOfTables, HeldFits, WholeRun, AsFreshCheck, FrontIsTurn}
 use Rattle.moves.proofs.ColumnLaws.{column-within, column-front, column-is, take-least, drop-least}
 use Rattle.moves.proofs.TouchLaws.{run-touches}
-use Rattle.moves.proofs.RunLaws.{State, fresh-long, run-ran}
+use Rattle.moves.proofs.RunLaws.{State, fresh-many, run-ran}
 
 -- ---- the model refuses with neither 24 nor 25
 model-refuses : (f : File) (u : Turn) → Refuses NotOfTables (entitled f (u .lent) (u .call))
@@ -82,7 +82,7 @@ whole-run constraint answer t f row t₁ us a e =
     record {
       replies-are = w .replies-are;
       tables-are = rw (← s .values-are, ← s .verdicts-are);
-      overall-is = ap overallOf (column-front (freshVerdicts f last) (drop m (t .verdicts)) (tablesAfter theChange constraint 0 t₁ us .verdicts) m (fresh-long f last) (s .verdicts-are));
+      overall-is = ap overallOf (column-front (freshVerdicts f last) (drop m (t .verdicts)) (tablesAfter theChange constraint 0 t₁ us .verdicts) m (fresh-many f last) (s .verdicts-are));
       held-fits = rw (w .replies-are) (all-fit f row us);
       touches-only = run-touches constraint f (a .file-is-read) t₁ us e 0 t₁;
     }
@@ -101,9 +101,9 @@ as-fresh-check constraint answer t f row t₁ us answer′ a e q =
       file = a .file-is-read;
       answered = q;
       values-room = column-within last (drop n (t .values)) (t′ .values) n (s .long) (s .values-are);
-      verdicts-room = column-within fresh (drop m (t .verdicts)) (t′ .verdicts) m (fresh-long f last) (s .verdicts-are);
+      verdicts-room = column-within fresh (drop m (t .verdicts)) (t′ .verdicts) m (fresh-many f last) (s .verdicts-are);
     }) in
-    tables-filled (t′ .values) (t′ .verdicts) f last (t′ .values) (t′ .verdicts) n m refl refl (column-is last (drop n (t .values)) (t′ .values) n (s .long) (s .values-are)) (column-is fresh (drop m (t .verdicts)) (t′ .verdicts) m (fresh-long f last) (s .verdicts-are))
+    tables-filled (t′ .values) (t′ .verdicts) f last (t′ .values) (t′ .verdicts) n m refl refl (column-is last (drop n (t .values)) (t′ .values) n (s .long) (s .values-are)) (column-is fresh (drop m (t .verdicts)) (t′ .verdicts) m (fresh-many f last) (s .verdicts-are))
     ∙ ap (checked (t′ .values) (t′ .verdicts)) (sym check)
 
 -- ---- no more entries are lent than there are

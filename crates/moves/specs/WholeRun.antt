@@ -38,11 +38,12 @@ pub record OfRun (f : File) (t : Tables) (u : Turn) : Type 0 where
   pub verdicts : u .lent .verdicts ≤ length (t .verdicts)
   pub index : OwnOrNone f (u .call .index)
 
--- a reply that is neither 24 nor 25
+-- a refusal of neither what the tables hold nor an index
 pub record NotOfTables (r : Refusal) : Type 0 where
   pub not-24 : r .number ≡ heldDoesNotFit → ⊥
   pub not-25 : r .number ≡ wrongIndex → ⊥
 
+-- a reply that is neither 24 nor 25
 abbrev pub HeldFits : ChangeReply → Type 0
 HeldFits (Changed e) = Unit {0}
 HeldFits (Refused r) = NotOfTables r

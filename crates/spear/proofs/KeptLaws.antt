@@ -1,6 +1,6 @@
 -- Every reply is in range, so its word loses nothing of it. Assumes nothing.
 use Prim.Native.Nat.{ℕ, _≤_}
-use mathlib.Core.Path.{_≡_, refl, sym, ap, _∙_}
+use mathlib.Core.Path.{_≡_, refl, ap}
 use mathlib.Core.List.{List, []}
 use native.Mathlib.Omega.{arith}
 use lib.ListN.{length, getD, set}
@@ -35,7 +35,7 @@ use Rattle.moves.specs.Step.{Tables, renewed, step}
 use Rattle.moves.specs.Gate.{Call, admitted}
 use Rattle.moves.specs.Change.{made, changed, changeBy, changeOutcome}
 use Rattle.tables.proofs.CheckingLaws.{checking-steps}
-use Rattle.moves.proofs.RenewLaws.{renewed-length}
+use Rattle.moves.proofs.RenewLaws.{new-long}
 use Rattle.moves.proofs.GateLaws.{Admitted, admitted-passed}
 use Rattle.spear.specs.Pack.{decidingLine, CheckKept, ChangeKept, IndexKept, CleanKept, WriteKept}
 use Rattle.spear.proofs.PackLaws.{CheckFits, ChangeFits, WriteFits, IndexFits, check-back, change-back, write-back, index-back}
@@ -73,12 +73,10 @@ module _ (t : Tables) (c : Call) where
       let held = verdictsInUse f (t .verdicts) in
       let held-long = length-take-le m (t .verdicts) (p .is-entitled .verdicts-room) in
       let lines = concerned f (c .index) i in
-      let lines-long = concerned-length f (c .index) i in
       let new = renewed lines (freshVerdicts f row) held in
-      let new-long = renewed-length lines (freshVerdicts f row) held (lines-long ∙ sym held-long) (verdicts-length (f .variables) row (f .lines) ∙ sym held-long) in
       record {
-        line = omega (arith, line-most new, new-long, held-long, sound .few-lines);
-        named = omega (arith, many-most (λ b. b) lines, lines-long, sound .few-lines);
+        line = omega (arith, line-most new, new-long f (c .index) i row held held-long, held-long, sound .few-lines);
+        named = omega (arith, many-most (λ b. b) lines, concerned-length f (c .index) i, sound .few-lines);
         altered = omega (arith, differing-most held new, held-long, sound .few-lines);
         bits = omega (arith, bits-most wordBits (getD (rowInUse f (t .values)) i 0) (c .change .value));
       }

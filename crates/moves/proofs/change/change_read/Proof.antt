@@ -8,7 +8,10 @@ use Rattle.store.specs.declared.Progress.{Progress}
 use Rattle.store.specs.Tables.{Store, storeOf}
 use Rattle.store.specs.Progress.{storedFile, InTables, HeadsInUseFit}
 use Rattle.judge.proofs.HeldLaws.{lines-fit}
+use Rattle.index.specs.Internal.{fileOf}
 use Rattle.moves.specs.Step.{tablesOf}
+use Rattle.moves.specs.Gate.{changing}
+use Rattle.moves.specs.Change.{changeFor}
 use Rattle.moves.specs.Internal.{indexIf}
 use Rattle.moves.proofs.ChangeLaws.{change-bare}
 use Rattle.moves.proofs.change.change_read.Statement.{statement}
@@ -63,8 +66,9 @@ returns-2 c =
     let t = d .before .before .before .before .before .before .before in
     let s = t .before .before .before .before .before .before .before .before .before .before .before .args in
     let f = storedFile (bytes t) (tables t) (progress t) in
-    let bare = change-bare f (tablesOf (s .values .now) (s .verdicts .now)) (s .i) (s .v) (indexIf (s .through) (s .starts .now) (s .lists .now)) in
-    rw (← (file-read t)) (d .change-held .ensures (bytes t) (heads-fit t) ∙ bare)
+    let lent = tablesOf (s .values .now) (s .verdicts .now) in
+    let index = indexIf (s .through) (s .starts .now) (s .lists .now) in
+    rw (← (file-read t)) (_∙_ {b = changeFor (fileOf (f .variables) (f .lines)) lent (changing (s .i) (s .v) index)} (d .change-held .ensures (bytes t) (heads-fit t)) (change-bare f lent (s .i) (s .v) index))
 
 pub change-read-spec : {M : Type 1} → statement M
 change-read-spec =
