@@ -18,7 +18,7 @@ use Rattle.store.proofs.LineTableLaws.{lines-length}
 use Rattle.index.specs.Select.{names, naming}
 use Rattle.index.specs.Index.{numbersFrom, ownList, ownLists, ownStart}
 use Rattle.index.specs.Claims.{maxListed}
-use Rattle.index.specs.Internal.{one, heldFile, sumTo, ListRoom, Listed}
+use Rattle.index.specs.Internal.{one, heldFile, sumTo, ListRoom, LinePut}
 use Rattle.index.proofs.CountLaws.{many-next, numbers-length, lists-sum, sum-lines}
 use Rattle.index.proofs.TallyLaws.{sum-below}
 
@@ -146,7 +146,7 @@ module _ (heads bodies : List ℕ) (n m : ℕ) where
         let w = before-end k h i p in
         (omega (arith, a .lists-long), omega (arith, start-most heads bodies n m l))
 
-    module _ (next₂ lists₂ : List ℕ) (b : Listed n (λ i. one (names i (lineIn heads bodies k))) (k + 1) next lists next₂ lists₂) where
+    module _ (next₂ lists₂ : List ℕ) (b : LinePut n (λ i. one (names i (lineIn heads bodies k))) (k + 1) next lists next₂ lists₂) where
       next-filled : (i : ℕ) → i < n → (j : ℕ) → j < many (k + 1) i → getD lists₂ (ownStart f i + j) 0 ≡ getD (ownList f i) j 0
       next-filled i p j q = elim (ℕ-discrete j (many k i)) [
         | yes e ↦

@@ -11,7 +11,7 @@ use lib.Seq.{getD-set-same, getD-set-other}
 use borrow.Author.Tests.{eq-eqb, ne-eqb}
 use Rattle.refusal.proofs.ManyLaws.{one-most}
 use Rattle.index.specs.declared.LineVariables.{LineVariables}
-use Rattle.index.specs.Internal.{one, timesNamed, ListRoom, Listed}
+use Rattle.index.specs.Internal.{one, timesNamed, ListRoom, LinePut}
 use Rattle.index.proofs.TallyLaws.{one-more}
 
 -- ---- into one list
@@ -22,7 +22,7 @@ one-here i q h = elim (ℕ-discrete q i) [
 ]
 
 module _ (n i x : ℕ) (next lists : List ℕ) where
-  pub listed-none : n ≤ i → Listed n (λ q. one (eqb q i)) x next lists next lists
+  pub listed-none : n ≤ i → LinePut n (λ q. one (eqb q i)) x next lists next lists
   listed-none h = record {
     next-long = refl;
     lists-long = refl;
@@ -39,7 +39,7 @@ module _ (n i x : ℕ) (next lists : List ℕ) where
       | no d ↦ getD-set-other lists (getD next i 0) p x 0 d ∙ e
     ]
 
-    pub listed-one : Listed n (λ q. one (eqb q i)) x next lists (set next i (getD next i 0 + 1)) (set lists (getD next i 0) x)
+    pub listed-one : LinePut n (λ q. one (eqb q i)) x next lists (set next i (getD next i 0 + 1)) (set lists (getD next i 0) x)
     listed-one = record {
       next-long = length-set next i (getD next i 0 + 1);
       lists-long = length-set lists (getD next i 0) x;
@@ -50,7 +50,7 @@ module _ (n i x : ℕ) (next lists : List ℕ) where
     }
 
 -- ---- into more lists, each once
-module _ (n x : ℕ) (s t : ℕ → ℕ) (next lists next₂ lists₂ : List ℕ) (a : Listed n s x next lists next₂ lists₂) (once : (i : ℕ) → i < n → s i + t i ≤ 1) where
+module _ (n x : ℕ) (s t : ℕ → ℕ) (next lists next₂ lists₂ : List ℕ) (a : LinePut n s x next lists next₂ lists₂) (once : (i : ℕ) → i < n → s i + t i ≤ 1) where
   -- what is not named yet has not moved
   still : (i : ℕ) → i < n → 0 < t i → getD next₂ i 0 ≡ getD next i 0
   still i h k = omega (arith, a .moved i h, once i h)
@@ -58,14 +58,14 @@ module _ (n x : ℕ) (s t : ℕ → ℕ) (next lists next₂ lists₂ : List ℕ
   room-then : ListRoom n (λ i. s i + t i) next lists → ListRoom n t next₂ lists₂
   room-then r i h k = let z = r i h (omega arith) in (omega (arith, still i h k, a .lists-long), omega (arith, still i h k))
 
-  module _ (next₃ lists₃ : List ℕ) (b : Listed n t x next₂ lists₂ next₃ lists₃) where
+  module _ (next₃ lists₃ : List ℕ) (b : LinePut n t x next₂ lists₂ next₃ lists₃) where
     then-put : (i : ℕ) → i < n → 0 < s i + t i → getD lists₃ (getD next i 0) 0 ≡ x
     then-put i h k = elim (ℕ-discrete (t i) 0) [
       | yes e ↦ b .same (getD next i 0) (a .put i h (omega arith))
       | no d ↦ rw (still i h (omega arith)) at (b .put i h (omega arith))
     ]
 
-    listed-then : Listed n (λ i. s i + t i) x next lists next₃ lists₃
+    listed-then : LinePut n (λ i. s i + t i) x next lists next₃ lists₃
     listed-then = record {
       next-long = b .next-long ∙ a .next-long;
       lists-long = b .lists-long ∙ a .lists-long;
@@ -80,7 +80,7 @@ module _ (n x : ℕ) (s t : ℕ → ℕ) (e : (i : ℕ) → i < n → s i ≡ t 
   room-alike : ListRoom n t next lists → ListRoom n s next lists
   room-alike r i h k = r i h (omega (arith, e i h))
 
-  listed-alike : (next₂ lists₂ : List ℕ) → Listed n s x next lists next₂ lists₂ → Listed n t x next lists next₂ lists₂
+  listed-alike : (next₂ lists₂ : List ℕ) → LinePut n s x next lists next₂ lists₂ → LinePut n t x next lists next₂ lists₂
   listed-alike next₂ lists₂ a = record {
     next-long = a .next-long;
     lists-long = a .lists-long;
@@ -113,25 +113,25 @@ module _ (n x : ℕ) (r : LineVariables) (t : ℕ → Bool) (e : (i : ℕ) → i
     pub room-first : ListRoom n (λ i. one (eqb i (r .output))) next lists
     room-first i h k = all i h (omega arith)
 
-    module _ (next₁ lists₁ : List ℕ) (a : Listed n (λ i. one (eqb i (r .output))) x next lists next₁ lists₁) where
+    module _ (next₁ lists₁ : List ℕ) (a : LinePut n (λ i. one (eqb i (r .output))) x next lists next₁ lists₁) where
       pub room-second : ListRoom n (λ i. one (eqb i (r .first))) next₁ lists₁
       room-second = room-then n x s₁ (λ i. one (eqb i (r .first))) next lists next₁ lists₁ a (λ i h. omega (arith, once i h)) (λ i h k. all i h (omega arith))
 
-      module _ (next₂ lists₂ : List ℕ) (b : Listed n (λ i. one (eqb i (r .first))) x next₁ lists₁ next₂ lists₂) where
-        two : Listed n s₂ x next lists next₂ lists₂
+      module _ (next₂ lists₂ : List ℕ) (b : LinePut n (λ i. one (eqb i (r .first))) x next₁ lists₁ next₂ lists₂) where
+        two : LinePut n s₂ x next lists next₂ lists₂
         two = listed-then n x s₁ (λ i. one (eqb i (r .first))) next lists next₁ lists₁ a (λ i h. omega (arith, once i h)) next₂ lists₂ b
 
         pub room-third : ListRoom n (λ i. one (eqb i (r .second))) next₂ lists₂
         room-third = room-then n x s₂ (λ i. one (eqb i (r .second))) next lists next₂ lists₂ two (λ i h. omega (arith, once i h)) (λ i h k. all i h (omega arith))
 
-        module _ (next₃ lists₃ : List ℕ) (c : Listed n (λ i. one (eqb i (r .second))) x next₂ lists₂ next₃ lists₃) where
-          three : Listed n s₃ x next lists next₃ lists₃
+        module _ (next₃ lists₃ : List ℕ) (c : LinePut n (λ i. one (eqb i (r .second))) x next₂ lists₂ next₃ lists₃) where
+          three : LinePut n s₃ x next lists next₃ lists₃
           three = listed-then n x s₂ (λ i. one (eqb i (r .second))) next lists next₂ lists₂ two (λ i h. omega (arith, once i h)) next₃ lists₃ c
 
           pub room-fourth : ListRoom n (λ i. one (eqb i (r .third))) next₃ lists₃
           room-fourth = room-then n x s₃ (λ i. one (eqb i (r .third))) next lists next₃ lists₃ three once all
 
-          pub listed-line : (next₄ lists₄ : List ℕ) → Listed n (λ i. one (eqb i (r .third))) x next₃ lists₃ next₄ lists₄ → Listed n (λ i. one (t i)) x next lists next₄ lists₄
+          pub listed-line : (next₄ lists₄ : List ℕ) → LinePut n (λ i. one (eqb i (r .third))) x next₃ lists₃ next₄ lists₄ → LinePut n (λ i. one (t i)) x next lists next₄ lists₄
           listed-line next₄ lists₄ d =
               listed-alike n x (λ i. timesNamed i r) (λ i. one (t i)) e next lists next₄ lists₄
               (listed-then n x s₃ (λ i. one (eqb i (r .third))) next lists next₃ lists₃ three once next₄ lists₄ d)

@@ -19,12 +19,12 @@ use Rattle.store.proofs.TableLaws.{length-tabulate, getD-tabulate}
 use Rattle.index.specs.Select.{names, naming}
 use Rattle.index.specs.Index.{Index, numbersFrom, ownList, ownLists, ownStart, ownIndex}
 use Rattle.index.specs.AnyIndex.{listIn, concerned, neighbours, startsInUse, startsFit, listFits, listsFit, indexFits}
-use Rattle.index.specs.Claims.{FrontOf, IsOwn, OwnOrNone}
+use Rattle.index.specs.Claims.{StandsInFront, IsOwn, OwnOrNone}
 use Rattle.index.proofs.NeighbourLaws.{neighbours-at}
 use Rattle.index.proofs.IndexLaws.{own-list-selects}
 
 -- ---- what is lent is no longer than its table
-front-within : (table lent : List ℕ) → FrontOf table lent → length lent ≤ length table
+front-within : (table lent : List ℕ) → StandsInFront table lent → length lent ≤ length table
 front-within table lent e = omega (arith, ap length e ∙ length-take (length lent) table)
 
 -- ---- the lists of the first variables stand in front of all

@@ -11,13 +11,13 @@ use Rattle.index.specs.declared.IndexReply.the-variants.{Indexed}
 use Rattle.index.specs.Index.{Index, indexOf, ownIndex, indexOutcome}
 
 -- entries stand in front of a table
-abbrev pub FrontOf : List ℕ → List ℕ → Type 0
-FrontOf table entries = entries ≡ take (length entries) table
+abbrev pub StandsInFront : List ℕ → List ℕ → Type 0
+StandsInFront table entries = entries ≡ take (length entries) table
 
 -- "the file's own" index: its entries in use are the file's; both tables may be longer
 pub record IsOwn (f : File) (x : Index) : Type 0 where
-  pub starts : FrontOf (x .starts) (ownIndex f .starts)
-  pub lists : FrontOf (x .lists) (ownIndex f .lists)
+  pub starts : StandsInFront (x .starts) (ownIndex f .starts)
+  pub lists : StandsInFront (x .lists) (ownIndex f .lists)
 
 -- "no index or the file's own"
 abbrev pub OwnOrNone : File → Option Index → Type 0

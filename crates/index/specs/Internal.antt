@@ -69,7 +69,7 @@ abbrev pub ListRoom : ℕ → (ℕ → ℕ) → List ℕ → List ℕ → Type 0
 ListRoom n t next lists = (i : ℕ) → i < n → 0 < t i → (getD next i 0 < length lists) × (getD next i 0 < maxListed)
 
 -- the number x put there, and `next` moved on
-pub record Listed (n : ℕ) (t : ℕ → ℕ) (x : ℕ) (next lists next₂ lists₂ : List ℕ) : Type 0 where
+pub record LinePut (n : ℕ) (t : ℕ → ℕ) (x : ℕ) (next lists next₂ lists₂ : List ℕ) : Type 0 where
   pub next-long : length next₂ ≡ length next
   pub lists-long : length lists₂ ≡ length lists
   pub moved : (i : ℕ) → i < n → getD next₂ i 0 ≡ getD next i 0 + t i

@@ -21,7 +21,7 @@ ghost use Rattle.index.specs.declared.IndexReply.the-variants.{Refused};
 ghost use Rattle.index.specs.Select.{names};
 ghost use Rattle.index.specs.Index.{ownLists, ownStart};
 ghost use Rattle.index.specs.Claims.{maxListed};
-ghost use Rattle.index.specs.Internal.{one, entryOf, heldFile, sumTo, CountsAtMost, CountsGrown, ListRoom, Listed, indexFor};
+ghost use Rattle.index.specs.Internal.{one, entryOf, heldFile, sumTo, CountsAtMost, CountsGrown, ListRoom, LinePut, indexFor};
 
 // One line more for variable i; NONE has no count.
 fn count_one(counts: &mut [u32; Edition::VARIABLES], i: usize)
@@ -99,7 +99,7 @@ fn put_starts(firsts: &[u32; Edition::VARIABLES], n: usize, end: u32, starts: &m
 // Puts a line's number into the list of variable i, of n, where `next` says.
 fn list_one(lists: &mut [u32], next: &mut [u32; Edition::VARIABLES], n: usize, i: usize, line: u32)
     requires { ⌜ (length (now next) ≡ maxVariables) × (n ≤ maxVariables) × ListRoom n (λ q. one (eqb q i)) (now next) (now lists) ⌝ }
-    ensures { λ _. ⌜ Listed n (λ q. one (eqb q i)) line (now (next .entry)) (now (lists .entry)) (now (next .exit)) (now (lists .exit)) ⌝ }
+    ensures { λ _. ⌜ LinePut n (λ q. one (eqb q i)) line (now (next .entry)) (now (lists .entry)) (now (next .exit)) (now (lists .exit)) ⌝ }
 {
     if i < n {
         let at = next[i];
@@ -118,7 +118,7 @@ fn list_line<'a>(
     k: usize,
 )
     requires { ⌜ (length (now next) ≡ maxVariables) × (length (now heads) ≡ tableHeads) × (length (now bodies) ≡ tableBodies) × (n ≤ maxVariables) × (k < maxLines) × ListRoom n (λ q. one (names q (lineIn (now heads) (now bodies) k))) (now next) (now lists) ⌝ }
-    ensures { λ _. ⌜ Listed n (λ q. one (names q (lineIn (now (heads .entry)) (now (bodies .entry)) k))) (k + 1) (now (next .entry)) (now (lists .entry)) (now (next .exit)) (now (lists .exit)) ⌝ }
+    ensures { λ _. ⌜ LinePut n (λ q. one (names q (lineIn (now (heads .entry)) (now (bodies .entry)) k))) (k + 1) (now (next .entry)) (now (lists .entry)) (now (next .exit)) (now (lists .exit)) ⌝ }
 {
     let line = variables_of(heads, bodies, k);
     let number = k as u32 + 1;

@@ -6,7 +6,7 @@ use Rattle.constraint.specs.File.{File}
 use Rattle.constraint.specs.Read.{readFile}
 use Rattle.moves.specs.declared.ChangeReply.{ChangeReply}
 use Rattle.moves.specs.declared.ChangeReply.the-variants.{Changed, Refused}
-use Rattle.moves.specs.Step.{Tables, inUse, inFront, step, effect}
+use Rattle.moves.specs.Step.{Tables, inUse, putInUse, step, effect}
 use Rattle.moves.specs.Gate.{Call, admitted}
 
 -- the reply and the tables at exit
@@ -19,7 +19,7 @@ unfoldable pub made : File → Tables → Call → Outcome
 made f t c =
     let old = inUse f t in
     let new = step f (c .index) (c .change) old in
-    record { reply = Changed (effect f (c .index) (c .change) old new); tables = inFront f new t }
+    record { reply = Changed (effect f (c .index) (c .change) old new); tables = putInUse f new t }
 
 -- a refused one changes nothing
 abbrev pub changed : File → Tables → Call → Result (Unit {0}) → Outcome

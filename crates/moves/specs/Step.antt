@@ -29,8 +29,8 @@ abbrev pub inUse : File → Tables → Tables
 inUse f t = tablesOf (rowInUse f (t .values)) (verdictsInUse f (t .verdicts))
 
 -- entries in use, in front of what stands behind those of other tables
-abbrev pub inFront : File → Tables → Tables → Tables
-inFront f used t = tablesOf (used .values ++ drop (length (f .variables)) (t .values)) (used .verdicts ++ drop (length (f .lines)) (t .verdicts))
+abbrev pub putInUse : File → Tables → Tables → Tables
+putInUse f used t = tablesOf (used .values ++ drop (length (f .variables)) (t .values)) (used .verdicts ++ drop (length (f .lines)) (t .verdicts))
 
 -- what a fresh check makes of a row
 abbrev pub freshTables : File → List ℕ → Tables

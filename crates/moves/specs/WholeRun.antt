@@ -20,7 +20,7 @@ use Rattle.index.specs.AnyIndex.{concerned}
 use Rattle.index.specs.Claims.{OwnOrNone}
 use Rattle.moves.specs.declared.ChangeReply.{ChangeReply}
 use Rattle.moves.specs.declared.ChangeReply.the-variants.{Changed, Refused}
-use Rattle.moves.specs.Step.{Tables, inFront, freshTables}
+use Rattle.moves.specs.Step.{Tables, putInUse, freshTables}
 use Rattle.moves.specs.Gate.{Call}
 use Rattle.moves.specs.Change.{Outcome, changeOutcome}
 use Rattle.moves.specs.Run.{Turn, ChangeCall, turnOutcome, outcomes, tablesAfter, EachTurn, theChange, modelReplies, modelRow}
@@ -64,7 +64,7 @@ pub record AsModel (calls : ℕ → ChangeCall) (constraint : List ℕ) (f : Fil
   -- "Each change is refused exactly where the plain model in document 01 refuses it, and its whole answer is the model's"
   pub replies-are : map (λ o. o .reply) (outcomes calls constraint 0 t₁ us) ≡ modelReplies f row us
   -- "the values are the check's with every accepted change's value put in at its variable, in order. The line verdicts .. are those of a fresh check, by the definitions of demand 2, of the same file with these values"; what is behind them is as it was
-  pub tables-are : tablesAfter calls constraint 0 t₁ us ≡ inFront f (freshTables f (modelRow f row us)) t
+  pub tables-are : tablesAfter calls constraint 0 t₁ us ≡ putInUse f (freshTables f (modelRow f row us)) t
   -- "and the overall verdict"
   pub overall-is : overallOf (take (length (f .lines)) (tablesAfter calls constraint 0 t₁ us .verdicts)) ≡ overallOf (freshVerdicts f (modelRow f row us))
   -- "24 can't arise"

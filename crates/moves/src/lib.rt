@@ -2,11 +2,11 @@
 use judge::Overall;
 use refusal::Refusal;
 
+mod admission;
 pub mod change;
 pub mod claims;
 mod renewing;
 pub mod runs;
-mod tests;
 
 // What a change did: the overall verdict by the table, how many lines it concerned, how many verdicts became different, and how many bits of the value.
 pub struct Effect {

@@ -1,6 +1,6 @@
 use borrow.Author.Needs.{needs}
-use Rattle.moves.proofs.tests.gate_index.Statement.{statement}
-use Rattle.moves.proofs.tests.gate_index.Tie as tie
+use Rattle.moves.proofs.admission.gate_index.Statement.{statement}
+use Rattle.moves.proofs.admission.gate_index.Tie as tie
 
 index-fault-requires : tie.Need-index-fault-requires
 index-fault-requires c κs = search needs

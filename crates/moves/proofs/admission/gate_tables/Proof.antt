@@ -5,8 +5,8 @@ use borrow.Author.Needs.{needs}
 use borrow.Author.Tests.{not-true, not-false}
 use Rattle.arithmetic.specs.Rules.{fits}
 use Rattle.moves.proofs.GateLaws.{file-sized, gate-values-short, gate-verdicts-short, gate-no-variable, gate-too-large, gate-values-unfit, gate-verdicts-unfit, gate-passes}
-use Rattle.moves.proofs.tests.gate_tables.Statement.{statement}
-use Rattle.moves.proofs.tests.gate_tables.Tie as tie
+use Rattle.moves.proofs.admission.gate_tables.Statement.{statement}
+use Rattle.moves.proofs.admission.gate_tables.Tie as tie
 
 -- the value fits its variable
 fitting : (c : tie.Else4) → fits (record { width = c .before .before .width-of .result; value = c .before .before .before .before .before .before .before .before .args .v }) ≡ true

@@ -11,8 +11,8 @@ use Rattle.index.specs.Internal.{fileOf}
 use Rattle.moves.specs.Step.{tablesOf}
 use Rattle.moves.specs.Gate.{changing, admitted}
 use Rattle.moves.proofs.GateLaws.{file-sized, gate-barred, gate-fitted}
-use Rattle.moves.proofs.tests.gate.Statement.{statement}
-use Rattle.moves.proofs.tests.gate.Tie as tie
+use Rattle.moves.proofs.admission.gate.Statement.{statement}
+use Rattle.moves.proofs.admission.gate.Tie as tie
 
 gate-tables-requires : tie.Need-gate-tables-requires
 gate-tables-requires c κs = search needs

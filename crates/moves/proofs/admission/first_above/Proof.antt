@@ -8,8 +8,8 @@ use borrow.Author.Tests.{lt-ltb, le-ltb}
 use Rattle.refusal.specs.Lists.{firstFrom}
 use Rattle.judge.specs.Judge.{verdictDisregarded}
 use Rattle.refusal.proofs.ListLaws.{first-here, first-later, first-nowhere}
-use Rattle.moves.proofs.tests.first_above.Statement.{statement}
-use Rattle.moves.proofs.tests.first_above.Tie as tie
+use Rattle.moves.proofs.admission.first_above.Statement.{statement}
+use Rattle.moves.proofs.admission.first_above.Tie as tie
 
 abbrev Inv-loop : tie.InvT-loop
 Inv-loop verdicts k₀ k = (k ≤ length verdicts) × (firstFrom (ltb verdictDisregarded) k (drop k verdicts) ≡ firstFrom (ltb verdictDisregarded) 0 verdicts)
