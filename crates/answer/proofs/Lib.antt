@@ -1,5 +1,4 @@
 -- Laws that belong to no one function.
-pub mod RowLaws
 pub mod EntryLaws
 pub mod SolutionLaws
 pub mod SettingLaws

@@ -8,6 +8,7 @@ use lib.ListN.{length, getD, replicate, length-map, length-replicate, getD-repli
 use Rattle.edition.specs.declared.Edition.{Edition}
 use Rattle.refusal.specs.Result.{accepted}
 use Rattle.refusal.proofs.ResultLaws.{never}
+use Rattle.refusal.proofs.ListLaws.{getD-mapped}
 use Rattle.text.specs.Lines.{Token}
 use Rattle.constraint.specs.File.{Variable, nameAt}
 use Rattle.constraint.specs.Sound.{Each, SoundVariable, Distinct}
@@ -42,9 +43,7 @@ no-values n i h = rw getD-replicate
 
 row-values : (row : List ℕ) (i : ℕ) → i < length row → Option·toList (getD (map some row) i none) ≡ getD row i 0 ∷ []
 unfolding Option·toList
-row-values [] i h = absurd (omega arith)
-row-values (v ∷ row) zero h = refl
-row-values (v ∷ row) (suc i) h = row-values row i (omega arith)
+row-values row i h = rw (getD-mapped some row i 0 none h)
 
 -- from no settings to those of a row
 module _ (e : Edition) (xs : List Variable) (sound : Each (SoundVariable e) xs) (distinct : Distinct xs) (row : List ℕ) (ts : List Token) where

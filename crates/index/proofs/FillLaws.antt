@@ -6,14 +6,14 @@ use mathlib.Core.List.{List, [], _∷_, _++_, map}
 use native.Mathlib.Decide.{ℕ-discrete, decLt}
 use native.Mathlib.Omega.{arith}
 use lib.ListN.{length, getD, take, drop, length-append, length-drop, take-append-drop}
-use lib.Seq.{ext-getD, getD-drop, getD-take, length-take-le, split-at, take-add, take-all, take-append-le}
+use lib.Seq.{ext-getD, getD-drop, getD-take, length-take-le, split-at, take-add}
 use Rattle.edition.specs.Edition.{maxVariables, maxLines}
 use Rattle.refusal.specs.Lists.{howMany}
 use Rattle.refusal.proofs.ManyLaws.{one-most, many-append, many-cons}
 use Rattle.constraint.specs.declared.Line.{Line}
 use Rattle.constraint.specs.File.{File}
 use Rattle.store.specs.Tables.{tabulate, lineIn, linesIn}
-use Rattle.store.proofs.TableLaws.{length-tabulate, getD-tabulate}
+use Rattle.store.proofs.TableLaws.{length-tabulate, getD-tabulate, take-tabulate}
 use Rattle.store.proofs.LineTableLaws.{lines-length}
 use Rattle.index.specs.Select.{names, naming}
 use Rattle.index.specs.Index.{numbersFrom, ownList, ownLists, ownStart}
@@ -50,14 +50,6 @@ numbers-at n g (y ∷ xs) x ys e = go (g y) refl (numbers-at (suc n) g xs x ys e
     go : (b : Bool) → g y ≡ b → getD (numbersFrom (suc n) (map g (xs ++ x ∷ ys))) (howMany g xs) 0 ≡ suc n + length xs → getD (numbersFrom n (map g ((y ∷ xs) ++ x ∷ ys))) (howMany g (y ∷ xs)) 0 ≡ n + suc (length xs)
     go true q k = rw q (k ∙ omega arith)
     go false q k = rw q (k ∙ omega arith)
-
-take-tabulate : {A : Type 0} (f : ℕ → A) (k m : ℕ) → k ≤ m → take k (tabulate f m) ≡ tabulate f k
-unfolding tabulate
-take-tabulate f k zero h = let e : k ≡ 0 = omega arith in rw e
-take-tabulate f k (suc m) h = elim (ℕ-discrete k (suc m)) [
-  | yes e ↦ rw e (take-all (suc m) (tabulate f (suc m)) (omega (arith, length-tabulate f (suc m))))
-  | no d ↦ take-append-le k (tabulate f m) (f m ∷ []) (omega (arith, length-tabulate f m)) ∙ take-tabulate f k m (omega arith)
-]
 
 lines-split : (heads bodies : List ℕ) (k m : ℕ) → k < m → linesIn heads bodies m ≡ linesIn heads bodies k ++ lineIn heads bodies k ∷ drop (suc k) (linesIn heads bodies m)
 unfolding linesIn

@@ -2,13 +2,12 @@
 use Prim.Native.Nat.{ℕ, zero, suc, _+_, _≤_, _<_}
 use mathlib.Core.Path.{_≡_, refl, sym, _∙_}
 use mathlib.Core.List.{List, [], _∷_, _++_}
-use native.Mathlib.Nat.{zero-add}
 use native.Mathlib.Decide.{ℕ-discrete}
 use native.Mathlib.Numerals.{add-one}
 use native.Mathlib.Omega.{arith}
 use lib.Dec.{eqb}
 use lib.ListN.{length, getD, take, drop, set, length-set}
-use lib.Seq.{append-snoc, drop-cons, getD-set-same, getD-set-other, length-take-le, paste-suc, set-at}
+use lib.Seq.{append-snoc, drop-cons, getD-set-same, getD-set-other, length-take-le, set-at}
 use borrow.Author.Tests.{eq-eqb, ne-eqb}
 use Rattle.edition.specs.Edition.{maxVariables}
 use Rattle.refusal.proofs.ManyLaws.{one-most}
@@ -66,9 +65,6 @@ module _ (before : List ℕ) where
       left = λ q l. getD-set-other counts i q end 0 (omega arith) ∙ s .left q (omega arith);
     }
 
--- ---- the first i numbers put in front of a table
-pub front-more : (firsts table : List ℕ) (i : ℕ) → i < length firsts → i < length table → set (take i firsts ++ drop i table) i (getD firsts i 0) ≡ take (i + 1) firsts ++ drop (i + 1) table
-front-more firsts table i h k = rw add-one (simp zero-add at (paste-suc table 0 firsts i 0 (rw zero-add k) h))
-
+-- ---- the first numbers put in front of a table, and one behind them
 pub front-last : (firsts table : List ℕ) (n x : ℕ) → n ≤ length firsts → n < length table → set (take n firsts ++ drop n table) n x ≡ (take n firsts ++ (x ∷ [])) ++ drop (suc n) table
 front-last firsts table n x h k = rw (drop-cons table n 0 k) (set-at (take n firsts) (getD table n 0) (drop (suc n) table) x n (length-take-le n firsts h) ∙ sym (append-snoc (take n firsts) x (drop (suc n) table)))

@@ -7,7 +7,8 @@ ghost use Rattle.index.specs.Index.{indexOf};
 ghost use Rattle.index.specs.AnyIndex.{startsFit, listFits, listsFit, indexFitsFor};
 ghost use Rattle.index.specs.Internal.{faultResult};
 
-fn lesser(a: usize, b: usize) -> usize
+// The smaller of two numbers.
+pub fn lesser(a: usize, b: usize) -> usize
     ensures { λ r. ⌜ r ≡ min a b ⌝ }
 {
     if a <= b { a } else { b }

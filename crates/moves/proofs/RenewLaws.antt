@@ -12,6 +12,7 @@ use lib.Seq.{length-take-le, set-append-left, take-suc, take-length, take-add, d
 use borrow.Author.Tests.{eq-eqb}
 use Rattle.refusal.specs.Lists.{howMany, isOneOf}
 use Rattle.refusal.proofs.ResultLaws.{never}
+use Rattle.refusal.proofs.ListLaws.{getD-mapped}
 use Rattle.refusal.proofs.ManyLaws.{one-most}
 use Rattle.constraint.specs.declared.Line.{Line}
 use Rattle.constraint.specs.File.{Variable, File}
@@ -198,12 +199,6 @@ upTo-more k [] h = let z : ⊥ = omega arith in absurd z
 upTo-more zero (true ∷ bs) h = refl
 upTo-more zero (false ∷ bs) h = refl
 upTo-more (suc k) (b ∷ bs) h = ap (λ (z : List Bool). b ∷ z) (upTo-more k bs (omega arith)) ∙ front-more b (getD bs k false) (set (upTo k bs) k true) (upTo k bs)
-
--- something of each element, at a place
-getD-mapped : {A B : Type 0} (g : A → B) (l : List A) (k : ℕ) (d : A) (e : B) → k < length l → getD (map g l) k e ≡ g (getD l k d)
-getD-mapped g [] k d e h = let z : ⊥ = omega arith in absurd z
-getD-mapped g (x ∷ l) zero d e h = refl
-getD-mapped g (x ∷ l) (suc k) d e h = getD-mapped g l k d e (omega arith)
 
 -- ---- the list of a variable in an index, as a part of the lists
 module _ (m : ℕ) (x : Index) (i : ℕ) (h : ListFitting m x i) where

@@ -1,22 +1,15 @@
 // Changes on the first entries of two tables, as callers make them.
 use super::ChangeReply;
 use super::change::change_read;
+use index::fitting::lesser;
 ghost use mathlib.Core.Path.{_≡_};
 ghost use mathlib.Core.Option.{none, some};
-ghost use Prim.Native.Nat.{min};
 ghost use Rattle.index.specs.Index.{indexOf};
 ghost use Rattle.moves.specs.Step.{tablesOf};
 ghost use Rattle.moves.specs.Gate.{changing};
 ghost use Rattle.moves.specs.Change.{changeOutcome};
 ghost use Rattle.moves.specs.Run.{turnOutcome};
 ghost use Rattle.moves.specs.Internal.{indexIf};
-
-// The smaller of two numbers.
-fn least(a: usize, b: usize) -> usize
-    ensures { λ r. ⌜ r ≡ min a b ⌝ }
-{
-    if a < b { a } else { b }
-}
 
 // Lends the first p values and the first q verdicts, or as many as there are; `through` says whether the change goes through the index.
 fn change_lent(
@@ -33,8 +26,8 @@ fn change_lent(
 ) -> ChangeReply
     ensures { λ r. ⌜ record { reply = r; tables = tablesOf (now (values .exit)) (now (verdicts .exit)) } ≡ turnOutcome changeOutcome (now (constraint .entry)) (tablesOf (now (values .entry)) (now (verdicts .entry))) (record { call = changing i v (indexIf through (now (starts .entry)) (now (lists .entry))); lent = record { values = p; verdicts = q } }) ⌝ }
 {
-    let k = least(p, values.len());
-    let l = least(q, verdicts.len());
+    let k = lesser(p, values.len());
+    let l = lesser(q, verdicts.len());
     change_read(
         constraint,
         &mut values[..k],

@@ -1,4 +1,4 @@
--- Elements that pass a test: all of them, the first of them; things that are there or not; what is made of each element, joined. Assumes nothing.
+-- Elements that pass a test: all of them, the first of them; things that are there or not; what is made of each element, at a place and joined. Assumes nothing.
 use Prim.Native.Nat.{ℕ, zero, suc, _+_, _≤_, _<_}
 use mathlib.Core.Path.{_≡_, refl, _∙_}
 use mathlib.Core.Bool.{Bool, true, false, not, cond}
@@ -156,6 +156,12 @@ found-passes test n k (m ∷ ns) h e =
 pub one-passes : (test : ℕ → Bool) (n : ℕ) (ns : List ℕ) → every test ns ≡ true → isOneOf n ns ≡ true → test n ≡ true
 unfolding isOneOf
 one-passes test n ns = found-passes test n 0 ns
+
+-- what is made of each element, at a place
+pub getD-mapped : {A B : Type 0} (g : A → B) (l : List A) (k : ℕ) (d : A) (e : B) → k < length l → getD (map g l) k e ≡ g (getD l k d)
+getD-mapped g [] k d e h = let z : ⊥ = omega arith in absurd z
+getD-mapped g (x ∷ l) zero d e h = refl
+getD-mapped g (x ∷ l) (suc k) d e h = getD-mapped g l k d e (omega arith)
 
 -- what is made of each element, joined, where the elements' keys decide it; and what is made of that
 module _ {A B C : Type 0} where

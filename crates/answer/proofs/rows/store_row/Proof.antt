@@ -4,7 +4,7 @@ use mathlib.Core.List.{_++_}
 use native.Mathlib.Omega.{arith}
 use lib.ListN.{length, getD, take, drop, set, length-set}
 use borrow.Author.Needs.{needs}
-use Rattle.answer.proofs.RowLaws.{row-more}
+use Rattle.store.proofs.TableLaws.{row-more}
 use Rattle.answer.proofs.rows.store_row.Statement.{statement}
 use Rattle.answer.proofs.rows.store_row.Tie as tie
 

@@ -5,7 +5,8 @@ use mathlib.Core.List.{_++_}
 use native.Mathlib.Omega.{arith}
 use lib.ListN.{length, take, drop, length-set}
 use borrow.Author.Needs.{needs}
-use Rattle.index.proofs.TallyLaws.{front-more, front-last}
+use Rattle.store.proofs.TableLaws.{row-more}
+use Rattle.index.proofs.TallyLaws.{front-last}
 use Rattle.index.proofs.building.put_starts.Statement.{statement}
 use Rattle.index.proofs.building.put_starts.Tie as tie
 
@@ -40,7 +41,7 @@ loop-again : tie.Need-loop-again Inv-loop μ-loop
 loop-again c =
     let l = c .before .before in
     let s = l .before in
-    (search needs, length-set (l .loop .starts) _ _ ∙ l .loop .inv .1, rw (l .loop .inv .2) (front-more (s .args .firsts .now) (s .args .starts .now) (l .loop .i) (omega (arith, s .pre)) (omega (arith, s .pre))))
+    (search needs, length-set (l .loop .starts) _ _ ∙ l .loop .inv .1, rw (l .loop .inv .2) (row-more (s .args .firsts .now) (s .args .starts .now) (l .loop .i) (omega (arith, s .pre)) (omega (arith, s .pre))))
 
 mul-starts-3 : tie.Need-mul-starts-3 Inv-loop μ-loop
 mul-starts-3 c = search needs

@@ -10,23 +10,23 @@ use Rattle.moves.proofs.WholeLaws.{front-lent}
 use Rattle.moves.proofs.runs.change_lent.Statement.{statement}
 use Rattle.moves.proofs.runs.change_lent.Tie as tie
 
-least-requires : tie.Need-least-requires
-least-requires c κs = search needs
+lesser-requires : tie.Need-lesser-requires
+lesser-requires c κs = search needs
 
-least-requires-2 : tie.Need-least-requires-2
-least-requires-2 c κs = search needs
+lesser-requires-2 : tie.Need-lesser-requires-2
+lesser-requires-2 c κs = search needs
 
 slice-relend-prefix-change-read : tie.Need-slice-relend-prefix-change-read
 slice-relend-prefix-change-read c = search needs
 
 slice-aggregate-change-read : tie.Need-slice-aggregate-change-read
-slice-aggregate-change-read c = let s = c .before .before .before .before .before .before .before .before .args in sym (length-take-le (c .before .before .least .result) (s .values .now) (omega (arith, c .before .before .least .ensures)))
+slice-aggregate-change-read c = let s = c .before .before .before .before .before .before .before .before .args in sym (length-take-le (c .before .before .lesser .result) (s .values .now) (omega (arith, c .before .before .lesser .ensures)))
 
 slice-relend-prefix-change-read-2 : tie.Need-slice-relend-prefix-change-read-2
 slice-relend-prefix-change-read-2 c = search needs
 
 slice-aggregate-change-read-2 : tie.Need-slice-aggregate-change-read-2
-slice-aggregate-change-read-2 c = let s = c .before .before .before .before .before .before .before .before .before .args in sym (length-take-le (c .before .before .least2 .result) (s .verdicts .now) (omega (arith, c .before .before .least2 .ensures)))
+slice-aggregate-change-read-2 c = let s = c .before .before .before .before .before .before .before .before .before .args in sym (length-take-le (c .before .before .lesser2 .result) (s .verdicts .now) (omega (arith, c .before .before .lesser2 .ensures)))
 
 change-read-requires : tie.Need-change-read-requires
 change-read-requires c κs = search needs
@@ -42,14 +42,14 @@ returns c =
     let d = c .before .before .before .before in
     let s = d .before .before .before .before .before .before .before .before .before .before .args in
     let turn : Turn = record { call = changing (s .i) (s .v) (indexIf (s .through) (s .starts .now) (s .lists .now)); lent = record { values = s .p; verdicts = s .q } } in
-    front-lent (s .constraint .now) (tablesOf (s .values .now) (s .verdicts .now)) turn (d .before .before .before .before .least .result) (d .before .before .before .least2 .result) (record { reply = d .change-read .result; tables = tablesOf (d .change-read .last .1 .0) (d .change-read .last .1 .1 .0) }) (d .before .before .before .before .least .ensures) (d .before .before .before .least2 .ensures) (d .change-read .ensures)
+    front-lent (s .constraint .now) (tablesOf (s .values .now) (s .verdicts .now)) turn (d .before .before .before .before .lesser .result) (d .before .before .before .lesser2 .result) (record { reply = d .change-read .result; tables = tablesOf (d .change-read .last .1 .0) (d .change-read .last .1 .1 .0) }) (d .before .before .before .before .lesser .ensures) (d .before .before .before .lesser2 .ensures) (d .change-read .ensures)
 
 pub change-lent-spec : {M : Type 1} → statement M
 change-lent-spec =
     tie.close
     (tie.spec
-    least-requires
-    least-requires-2
+    lesser-requires
+    lesser-requires-2
     slice-relend-prefix-change-read
     slice-aggregate-change-read
     slice-relend-prefix-change-read-2
