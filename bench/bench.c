@@ -1,5 +1,6 @@
 /* Times the library's check, change, cleaning and indexing against the plain ones, compiled at -O2 and at -O3, on
-   files made here, with LF line ends and for the check with CR LF too. Every file is satisfied. */
+   files made here, with LF line ends and for the check with CR LF too. Every file is satisfied.
+   `./bench ROW` makes each check and flip of that row of the checks once, for a counter of instructions. */
 
 #define _POSIX_C_SOURCE 199309L
 
@@ -15,6 +16,7 @@
 
 enum { FILE_BYTES = 65536, VARIABLES = 256, LINES = 1024, GROUP = 8, OPERANDS = 3, ROUNDS = 15 };
 enum { STARTS = VARIABLES + 1, LISTED = LINES * (1 + OPERANDS) }; /* of an index, at most */
+enum { SPELLING = 40 };
 static const double MEASUREMENT_SECONDS = 0.1;
 
 static void fail(const char *why)
@@ -57,21 +59,68 @@ __attribute__((format(printf, 2, 3))) static void print(struct text *text, const
     text->length += (size_t)added;
 }
 
-struct input {
-    const char *name;
-    unsigned variable_count, name_bytes, line_count; /* variables come in whole groups */
-};
-
 struct files {
     struct text constraints, answer;
 };
+
+/* Names, by a variable's number. */
+
+typedef void spell(char *name, unsigned number);
+
+static void short_name(char *name, unsigned number)
+{
+    snprintf(name, SPELLING, "x%u", number);
+}
+
+static void middling_name(char *name, unsigned number)
+{
+    snprintf(name, SPELLING, "x%011u", number);
+}
+
+static const char stem[] = "oven_line_temperature_sensor"; /* 28 of 32 bytes */
+
+/* The number is spread, so that none of the last bytes is the same in all. */
+static void name_begun_alike(char *name, unsigned number)
+{
+    snprintf(name, SPELLING, "%s%04u", stem, 39 * number);
+}
+
+static void name_ended_alike(char *name, unsigned number)
+{
+    snprintf(name, SPELLING, "%c%03u%s", 'a' + number % 26, number, stem);
+}
+
+/* As the library chooses among its buckets. */
+static uint32_t bucket_of(const char *name)
+{
+    uint32_t hash = 0;
+    for (; *name; name++)
+        hash = hash * 37 + (uint8_t)*name;
+    return (hash + hash / 1024) % VARIABLES;
+}
+
+static void name_in_one_bucket(char *name, unsigned number)
+{
+    unsigned tries = 0;
+    do
+        snprintf(name, SPELLING, "x%06u_%04u", number, tries++);
+    while (bucket_of(name) != 0);
+}
+
+/* 37 * 'a' + 'z' is 37 * 'b' + 'U', so that all have the same hash. */
+static void name_of_one_hash(char *name, unsigned number)
+{
+    *name = '\0';
+    for (int bit = 7; bit >= 0; bit--)
+        strcat(name, number >> bit & 1 ? "bU" : "az");
+}
 
 /* Variables, in groups of 8 whose values are related so that results often fit a variable. */
 
 struct operand {
     uint64_t value;
     unsigned width;
-    char spelling[40];
+    char spelling[SPELLING];
 };
 
 static const unsigned group_widths[GROUP] = {1, 1, 8, 8, 16, 32, 32, 64};
@@ -86,13 +135,12 @@ static void make_group(struct operand *group)
     }
 }
 
-static void make_variables(struct operand *variables, const struct input *input)
+static void make_variables(struct operand *variables, unsigned count, spell *speller)
 {
-    for (unsigned i = 0; i < input->variable_count; i++) {
+    for (unsigned i = 0; i < count; i++) {
         if (i % GROUP == 0)
             make_group(&variables[i]);
-        snprintf(variables[i].spelling, sizeof variables[i].spelling, "x%0*u",
-                 (int)input->name_bytes - 1, i);
+        speller(variables[i].spelling, i);
     }
 }
 
@@ -270,6 +318,42 @@ static struct line make_line(const struct operand *group, enum operator operator
     return line;
 }
 
+/* The line of a file with that number. */
+
+typedef struct line make(const struct operand *variables, unsigned count, unsigned number);
+
+static struct line drawn_line(const struct operand *variables, unsigned count, unsigned number)
+{
+    size_t group = draw(count / GROUP) * GROUP;
+    return make_line(&variables[group], number % OPERATORS);
+}
+
+/* Only its first variable is named, so that as many lines with the longest names fit into a file. */
+static struct line sparing_line(const struct operand *variables, unsigned count, unsigned number)
+{
+    struct line line = drawn_line(variables, count, number);
+    bool has_name = false;
+    for (int i = 0; i <= OPERANDS; i++) {
+        struct operand *part = i < OPERANDS ? &line.operands[i] : &line.output;
+        if (has_name && part->width > 0)
+            *part = constant(part->value, part->width);
+        has_name = has_name || *part->spelling > '9';
+    }
+    return line;
+}
+
+/* Four lines that hold for every group name all of it, and one group comes behind the other. */
+static struct line line_in_turn(const struct operand *variables, unsigned count, unsigned number)
+{
+    const struct operand *group = &variables[number / 4 * GROUP % count];
+    switch (number % 4) {
+    case 0: return (struct line){ULT, {group[0], group[1]}, constant(1, 1)};
+    case 1: return (struct line){CONC, {group[2], group[3]}, group[4]};
+    case 2: return (struct line){ZEXT, {group[4]}, group[5]};
+    default: return (struct line){CONC, {group[6], group[5]}, group[7]};
+    }
+}
+
 static void print_line(struct text *text, const struct line *line)
 {
     bool may_be_p = line->operator <= ITE && line->output.width == 1 && line->output.value == 1;
@@ -294,17 +378,23 @@ static void print_variables(struct files *files, const struct operand *variables
     }
 }
 
+struct input {
+    const char *name;
+    unsigned variable_count, line_count; /* variables come in whole groups */
+    spell *speller;
+    make *maker;
+};
+
 static void make_files(struct files *files, const struct input *input)
 {
     static struct operand variables[VARIABLES];
     files->constraints.length = files->answer.length = 0;
-    make_variables(variables, input);
+    make_variables(variables, input->variable_count, input->speller);
     print(&files->constraints, "v 1.0\n");
     print(&files->answer, "s SATISFIABLE\n");
     print_variables(files, variables, input->variable_count);
     for (unsigned i = 0; i < input->line_count; i++) {
-        size_t group = draw(input->variable_count / GROUP) * GROUP;
-        struct line line = make_line(&variables[group], i % OPERATORS);
+        struct line line = input->maker(variables, input->variable_count, i);
         print_line(&files->constraints, &line);
     }
 }
@@ -780,40 +870,79 @@ static void report_flips_through(const struct input *input)
            1e6 * by[0].best, 1e6 * by[1].best, by[1].best / by[0].best);
 }
 
-int main(void)
+/* What is measured. */
+
+static const struct input inputs[] = {
+    {"smallest file", 0, 0, short_name, drawn_line},
+    {"8 variables, 16 lines", 8, 16, short_name, drawn_line},
+    {"8 variables, 64 lines", 8, 64, short_name, drawn_line},
+    {"8 variables, 256 lines", 8, 256, short_name, drawn_line},
+    {"8 variables, 1024 lines", 8, 1024, short_name, drawn_line},
+    {"256 variables, 1024 lines", 256, 1024, middling_name, drawn_line},
+    {"256 variables, no lines", 256, 0, middling_name, drawn_line},
+    {"all named in turn", 256, 1024, middling_name, line_in_turn},
+    {"names that begin alike", 256, 1024, name_begun_alike, sparing_line},
+    {"names that end alike", 256, 1024, name_ended_alike, sparing_line},
+    {"names in one bucket", 256, 1024, name_in_one_bucket, drawn_line},
+    {"names of one hash", 256, 1024, name_of_one_hash, drawn_line},
+};
+
+/* The first with a variable to flip, the first whose flips are timed beside plain ones, the first of other names. */
+enum { FLIPPABLE = 1, FLIPPED = 4, NAMES = 7, INPUTS = sizeof inputs / sizeof *inputs };
+
+static void report_each(size_t from, size_t to, void (*report_one)(const struct input *))
 {
-    static const struct input inputs[] = {
-        {"smallest file", 0, 0, 0},
-        {"8 variables, 16 lines", 8, 2, 16},
-        {"8 variables, 64 lines", 8, 2, 64},
-        {"8 variables, 256 lines", 8, 2, 256},
-        {"8 variables, 1024 lines", 8, 2, 1024},
-        {"256 variables, 1024 lines", 256, 12, 1024},
-        {"256 variables, no lines", 256, 12, 0},
-    };
-    printf("%-26s %7s %7s %9s %9s %9s %7s %7s %10s\n", "input", "file B", "answ. B", "spear us",
+    for (size_t i = from; i < to; i++)
+        report_one(&inputs[i]);
+}
+
+static void report_checks(const char *title, size_t from, size_t to)
+{
+    printf("%-26s %7s %7s %9s %9s %9s %7s %7s %10s\n", title, "file B", "answ. B", "spear us",
            "-O2 us", "-O3 us", "to -O2", "to -O3", "spear ns/B");
-    for (size_t i = 0; i < sizeof inputs / sizeof *inputs; i++)
-        report(&inputs[i]);
-    const struct input flips[] = {inputs[4], inputs[5]};
-    for (size_t i = 0; i < sizeof flips / sizeof *flips; i++)
-        report_flips(&flips[i]);
+    report_each(from, to, report);
+}
+
+static void report_all(void)
+{
+    report_checks("input", 0, NAMES);
+    report_checks("256 names, 1024 lines", NAMES, INPUTS);
+    report_each(FLIPPED, INPUTS, report_flips);
     printf("%-26s %7s %7s %9s %9s %9s %9s %7s %7s %7s\n", "cleaning", "file B", "clean B", "read us",
            "clean us", "-O2 us", "-O3 us", "to read", "to -O2", "to -O3");
-    for (size_t i = 0; i < sizeof inputs / sizeof *inputs; i++)
-        report_cleanings(&inputs[i]);
+    report_each(0, NAMES, report_cleanings);
     printf("%-26s %7s %7s %9s %9s %5s %9s %9s %5s %9s %9s %5s %7s %7s\n", "CR LF line ends", "file B",
            "answ. B", "spear LF", "CR LF us", "ratio", "-O2 LF", "CR LF us", "ratio", "-O3 LF",
            "CR LF us", "ratio", "to -O2", "to -O3");
-    for (size_t i = 0; i < sizeof inputs / sizeof *inputs; i++)
-        report_line_ends(&inputs[i]);
+    report_each(0, NAMES, report_line_ends);
     printf("%-26s %7s %7s %9s %9s %9s %9s %7s %7s %7s\n", "indexing", "file B", "listed", "read us",
            "index us", "-O2 us", "-O3 us", "to read", "to -O2", "to -O3");
-    for (size_t i = 0; i < sizeof inputs / sizeof *inputs; i++)
-        report_indexing(&inputs[i]);
+    report_each(0, NAMES, report_indexing);
     printf("%-26s %7s %7s %9s %9s %7s\n", "flips through the index", "listed", "of it", "flip us",
            "so us", "ratio");
-    for (size_t i = 0; i < sizeof inputs / sizeof *inputs; i++)
-        if (inputs[i].variable_count > 0)
-            report_flips_through(&inputs[i]);
+    report_each(FLIPPABLE, NAMES, report_flips_through);
+}
+
+/* Every row draws, so those before it are made too: then its files are the ones that are timed. */
+static void call_once(size_t row)
+{
+    static struct files files;
+    check *const calls[] = {spear_check, plain_check_o2, plain_check_o3, check_tables,
+                            flip,        plain_flip_o2,  plain_flip_o3};
+    size_t count = row < FLIPPABLE ? 3 : sizeof calls / sizeof *calls; /* the checks come first */
+    if (row >= INPUTS)
+        fail("there is no such row");
+    for (size_t i = 0; i <= row; i++)
+        make_files(&files, &inputs[i]);
+    for (size_t i = 0; i < count; i++)
+        if (reply_of(calls[i], &files) != 0)
+            fail("a reply isn't 0");
+}
+
+int main(int argument_count, char **arguments)
+{
+    if (argument_count > 1)
+        call_once(strtoul(arguments[1], NULL, 10));
+    else
+        report_all();
 }

@@ -21,11 +21,12 @@ sys.dont_write_bytecode = True  # no __pycache__ in the repository
 import answers
 import constraint_cases
 import constraints
+import crowds
 import operators
 from answers import Refusal
 from constraint_cases import MIXED, SHORT, cr_everywhere, crs, has_lines, has_same_lines, marked_tokens, mixed
 from constraint_cases import moved, no_line_end, with_crs
-from constraints import RESERVED, Line, is_predicate, unmarked
+from constraints import RESERVED, VARIABLES, Line, is_predicate, unmarked
 from operators import OPERATORS, Word
 
 MOST_BYTES, MOST_ENTRIES, MOST_ROOM = 70000, 300, 20000  # of a file, a table and a room
@@ -909,6 +910,44 @@ def sizes_with_crs():
 LINE_ENDS = [answers_with_crs, constraints_with_crs, sizes_with_crs]
 
 
+# Names that meet in a bucket. They are set in another order than they are declared.
+
+
+def crowded_answer(variables):
+    values = [variable.value for variable in variables]
+    return accepted_answer(values, crowds.header(variables), crowds.answer(crowds.shuffled(variables)))
+
+
+def crowded_faults(variables):
+    """One of them set twice, set without being declared, not set, and set to what doesn't fit."""
+    one = crowds.random.choice(crowds.some_of(variables))
+    others = crowds.without(variables, one)
+    text = crowds.answer(crowds.shuffled(others))
+    again, wide = f"{one.name}={one.value}", f"{one.name}={2**one.width}"
+    yield refused_answer(19, text + f"v {again} ¦{again}\n", crowds.header(variables))
+    yield refused_answer(13, text + f"v ¦{again}\n", crowds.header(others))
+    yield refused_answer(20, text + "¦", crowds.header(variables))
+    yield refused_answer(18, text + f"v ¦{wide}\n", crowds.header(variables))
+
+
+def crowded_answers():
+    for names in crowds.crowds():
+        variables = crowds.held(names, range(1, 64))
+        yield crowded_answer(variables)
+        yield from crowded_faults(variables)
+
+
+def most_names():
+    """As many as there may be, all of one bucket or of one hash."""
+    variables = crowds.held(crowds.any_crowd(VARIABLES, range(3, 6)), (8,))
+    yield crowded_answer(variables)
+    yield from list(crowded_faults(variables))[:2]
+    yield crowded_answer(crowds.held(crowds.of_one_hash(VARIABLES), (8,)))
+
+
+CROWDS = [crowded_answers, most_names]
+
+
 # The corpus.
 
 GROUPS = [answers_read, wrong_tokens, prefix_names, faulty_lines, unknown_kinds, forbidden_bytes, two_tokens]
@@ -929,7 +968,8 @@ REFUSALS = {
 def cases():
     found = list(dict.fromkeys(case for group in GROUPS for case in group()))
     with_line_ends = [case for group in LINE_ENDS for case in group()]
-    return list(dict.fromkeys([*found, *with_line_ends, *repeated(answer, found)]))
+    crowded = (case for group in CROWDS for case in group())
+    return list(dict.fromkeys([*found, *with_line_ends, *repeated(answer, found), *crowded]))
 
 
 def refusal_counts(every):

@@ -27,6 +27,7 @@ import answer_cases
 import answers
 import changes
 import constraints
+import crowds
 import index_runs
 import indexes
 from answer_cases import (
@@ -379,6 +380,30 @@ def repeated(runs):
         yield again(run, mixed, turn)
 
 
+# Names that meet in a bucket. The widths are the same and hardly two values are, so that another's would show.
+
+
+def crowded_run(variables, count):
+    """The first variables, so many, are in two lines each. Some are changed, and changed back through the index."""
+    constraint = crowds.header(variables) + crowds.lines(crowds.shuffled(variables[:count] * 2))
+    run = index_runs.build(accepted(constraint.encode(), [variable.value for variable in variables]))
+    for one in crowds.some_of(variables):
+        number = variables.index(one)
+        lines = 2 if number < count else 0
+        for change, value in ((run.change, one.value ^ 1), (run.through, one.value)):
+            found = change(number, value)
+            assert found[1:] == (lines, lines, 1), found
+        assert found.overall == "satisfied", found
+    return run
+
+
+def crowded_runs():
+    found = list(crowds.crowds())
+    for names in found[:6] + found[6::3]:
+        yield crowded_run(crowds.held(names, (16,)), len(names))
+    yield crowded_run(crowds.held(crowds.any_crowd(constraints.VARIABLES, range(3, 6)), (16,)), 20)
+
+
 # The corpus.
 
 GROUPS = [whole_case, named_lines, decided_lines, divisors, edge_widths, bit_counts, lent_tables, short_whole]
@@ -418,6 +443,7 @@ def main(folder):
     runs = [run for group in GROUPS for run in group()]
     runs += [*faulty_with_crs(), *sizes_with_crs(), *repeated(runs)]
     runs += [run for group in index_runs.GROUPS for run in group()]
+    runs += crowded_runs()
     runs = list({run.stdin(): run for run in runs}.values())  # a file without LFs gets no CRs
     for run in runs:
         if run.model:

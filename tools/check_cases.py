@@ -20,6 +20,7 @@ import answers
 import checks
 import constraint_cases
 import constraints
+import crowds
 import operator_vectors
 from answer_cases import (
     HEAD,
@@ -42,7 +43,7 @@ from answer_cases import (
 )
 from answers import Refusal
 from constraint_cases import with_crs
-from constraints import Line, is_predicate, unmarked
+from constraints import VARIABLES, Line, is_predicate, unmarked
 from operators import DIVISIONS, OPERATORS, Word
 
 MOST_VERDICTS = 1100
@@ -476,6 +477,37 @@ def sizes_with_crs():
 LINE_ENDS = [whole_case_with_crs, accepted_with_crs, faulty_with_crs, sizes_with_crs]
 
 
+# Names that meet in a bucket. The widths are the same and hardly two values are, so that another's would show.
+
+
+def crowded_checks(variables, count):
+    """That many lines, which hold in an answer that sets the variables in another order, and once one does not."""
+    named = crowds.shuffled(variables)[:count]
+    constraint = crowds.header(variables) + crowds.lines(named)
+    place = crowds.random.randrange(count)
+    wrong = named[place]._replace(value=named[place].value ^ 1)
+    for said, one in (("satisfied", named[place]), (f"violated {place + 1}", wrong)):
+        text = crowds.answer(crowds.shuffled([*crowds.without(variables, named[place]), one]))
+        yield accepted(said, constraint, text, len(variables), count)
+
+
+def crowded_files():
+    for names in crowds.crowds():
+        yield from crowded_checks(crowds.held(names, (16,)), len(names))
+    yield from faulty_constraints(list(crowds.faults())[::7])
+
+
+def most_names():
+    """As many as there may be, all of one bucket or of one hash, and one more."""
+    names = crowds.any_crowd(VARIABLES, range(3, 6))
+    yield from crowded_checks(crowds.held(names, (16,)), 40)
+    yield from list(crowded_checks(crowds.held(crowds.of_one_hash(VARIABLES), (16,)), 40))[:1]
+    yield from faulty_constraints(list(crowds.one_too_many(names))[:1])
+
+
+CROWDS = [crowded_files, most_names]
+
+
 # The corpus.
 
 GROUPS = [whole_case, table_cases, decided_lines, constraint_operators, predicate_operators, neighbours]
@@ -491,7 +523,9 @@ MOST_STDIN = 1500000
 def cases():
     found = list(dict.fromkeys(case for group in GROUPS for case in group()))
     with_line_ends = [case for group in LINE_ENDS for case in group()]
-    return list(dict.fromkeys([*found, *with_line_ends, *repeated(lambda case: checks.check(*case), found)]))
+    again = repeated(lambda case: checks.check(*case), found)
+    crowded = (case for group in CROWDS for case in group())
+    return list(dict.fromkeys([*found, *with_line_ends, *again, *crowded]))
 
 
 def outcome_counts(every):

@@ -16,9 +16,10 @@ from random import Random
 
 sys.dont_write_bytecode = True  # no __pycache__ in the repository
 import constraints
+import crowds
 from cleaning import meaning
 from constraints import BOOLEAN_PREDICATES, FILE_BYTES, PREDICATES, READ, READ_WITH_CRS, REFUSED, REFUSED_WITH_CRS
-from constraints import Refusal, unmarked
+from constraints import VARIABLES, Refusal, unmarked
 from operators import OPERATORS
 
 HEAD = "v 1.0\nd a:i8 b:i8 ab:i8 t:i1\n"  # what the lines of the tables below may name
@@ -540,11 +541,34 @@ def line_ends(files):
     yield from repeated(files)
 
 
+# Names that meet in a bucket. The widths differ, so that another's variable would not do.
+
+
+def crowded_file(variables, count):
+    """Declares them, and has that many lines, which name them in another order."""
+    return sound((crowds.header(variables) + crowds.lines(crowds.shuffled(variables)[:count])).encode())
+
+
+def crowded_files():
+    for variables in map(crowds.held, crowds.crowds()):
+        yield crowded_file(variables, len(variables))
+        yield damaged(crowded_file(variables, len(variables)))
+    yield from (refused(*case) for case in crowds.faults())
+
+
+def most_names():
+    """As many as there may be, all of one bucket or of one hash, and one more."""
+    names = crowds.any_crowd(VARIABLES, range(3, 6))
+    for others in (names, crowds.of_one_hash(VARIABLES)):
+        yield crowded_file(crowds.held(others), 40)
+    yield from (refused(*case) for case in crowds.one_too_many(names))
+
+
 def files():
     groups = [small_files(), wrong_tokens(), unknown_kinds(), forbidden_bytes(), two_faults()]
     groups += [types(), predicates(), casts(), sizes(), whole_files()]
     found = list(dict.fromkeys(file for group in groups for file in group))
-    return dict.fromkeys([*found, *line_ends(found)])
+    return dict.fromkeys([*found, *line_ends(found), *crowded_files(), *most_names()])
 
 
 def main(folder):

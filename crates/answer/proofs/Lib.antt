@@ -2,6 +2,7 @@
 pub mod EntryLaws
 pub mod SolutionLaws
 pub mod SettingLaws
+pub mod SettingValueLaws
 pub mod ValueLaws
 pub mod ReaderLaws
 pub mod CallLaws

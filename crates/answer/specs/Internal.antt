@@ -1,8 +1,9 @@
 -- What the results of this crate's functions and its own tables mean, in terms of the definitions.
 use Prim.Native.Nat.{ℕ, _<_, _^_}
+use Prim.Native.Char.{code}
 use mathlib.Core.Path.{_≡_}
 use mathlib.Core.Bool.{cond}
-use mathlib.Core.List.{List}
+use mathlib.Core.List.{List, [], _∷_}
 use mathlib.Core.Option.{Option, none, some}
 use lib.Dec.{eqb, leb, ltb}
 use lib.ListN.{length, getD, take}
@@ -10,6 +11,10 @@ use Rattle.edition.specs.Edition.{maxVariables, maxNameBytes}
 use Rattle.refusal.specs.declared.Subject.the-variants.{Answer}
 use Rattle.refusal.specs.Numbers.{overLimit, notDeclared, valueDoesNotFit}
 use Rattle.refusal.specs.Result.{Result, accepted, refused, _>>_}
+use Rattle.text.specs.declared.Number.{Number}
+use Rattle.text.specs.declared.Number.the-variants.{Value, TooBig, Misspelt}
+use Rattle.text.specs.Scan.{numberRead}
+use Rattle.text.specs.Spelling.{maxDigits}
 use Rattle.text.specs.Lines.{Token}
 use Rattle.text.specs.Reading.{noMoreTokens}
 use Rattle.constraint.specs.File.{Variable, widthAt, variableNamed}
@@ -22,23 +27,35 @@ use Rattle.answer.specs.declared.AnswerRead.{AnswerRead}
 use Rattle.answer.specs.declared.AnswerRead.the-variants.{Complete, Fault}
 use Rattle.answer.specs.Read.{Settings, settingsOf, inAnswer}
 
+-- a value behind an equals sign
+unfoldable pub numberBehindEquals : List ℕ → Number
+numberBehindEquals [] = Misspelt
+numberBehindEquals (b ∷ s) = cond (eqb b (code "=")) (numberRead maxDigits s) Misspelt
+
+-- the token of a value stops at `end`; where there is none, nothing is said
+abbrev pub ValueStops : ℕ → ℕ → Number → Type 0
+ValueStops end stop (Value v) = stop ≡ end
+ValueStops end stop TooBig = Unit {0}
+ValueStops end stop Misspelt = Unit {0}
+
 -- a setting, or the number of the token's refusal
 abbrev pub settingResult : Token → Setting → Result (ℕ × ℕ)
-settingResult t (Set i v) = accepted (i, v)
+settingResult t (Set i v stop) = accepted (i, v)
 settingResult t (Faulty number) = refused (inAnswer t number)
 
--- the setting of the variable that was found, if the value fits it
-abbrev pub settingIfFits : List Variable → ℕ → Option ℕ → Setting
-settingIfFits xs v none = Faulty notDeclared
-settingIfFits xs v (some i) = cond (ltb v (2 ^ widthAt xs i)) (Set i v) (Faulty valueDoesNotFit)
+-- the setting of the variable that was found, by a token that stops at `stop`, if the value fits it
+abbrev pub settingIfFits : List Variable → ℕ → ℕ → Option ℕ → Setting
+settingIfFits xs stop v none = Faulty notDeclared
+settingIfFits xs stop v (some i) = cond (ltb v (2 ^ widthAt xs i)) (Set i v stop) (Faulty valueDoesNotFit)
 
 -- what is said of a name that is set to the value v, once both are spelt right
-unfoldable pub settingNamed : List Variable → List ℕ → ℕ → Setting
-settingNamed xs name v = cond (leb (length name) maxNameBytes) (settingIfFits xs v (variableNamed name xs)) (Faulty overLimit)
+unfoldable pub settingNamed : List Variable → List ℕ → ℕ → ℕ → Setting
+settingNamed xs name stop v = cond (leb (length name) maxNameBytes) (settingIfFits xs stop v (variableNamed name xs)) (Faulty overLimit)
 
-abbrev pub SettingIn : ℕ → Setting → Type 0
-SettingIn n (Set i v) = i < n
-SettingIn n (Faulty number) = Unit {0}
+-- the variable of a setting is one of n, and its token stops at `end`
+abbrev pub SettingIn : ℕ → ℕ → Setting → Type 0
+SettingIn n end (Set i v stop) = (i < n) × (stop ≡ end)
+SettingIn n end (Faulty number) = Unit {0}
 
 -- the tables: whether each variable is set, and to what
 unfoldable pub entryIn : List ℕ → List ℕ → ℕ → Option ℕ

@@ -32,9 +32,9 @@ pub enum AnswerLine {
     OfNoKind,
 }
 
-// The number of a variable and its value, or the number of the token's refusal.
+// The number of a variable, its value and where the token stops, or the number of the token's refusal.
 pub enum Setting {
-    Set(usize, u64),
+    Set(usize, u64, usize),
     Faulty(u8),
 }
 

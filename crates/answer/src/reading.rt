@@ -24,6 +24,7 @@ ghost use Rattle.text.specs.Lines.{textLines};
 ghost use Rattle.text.specs.Reading.{readAnyLine, readLines};
 ghost use Rattle.text.specs.Bytes.{isAllowed};
 ghost use Rattle.text.specs.Scan.{lineAt};
+ghost use Rattle.store.specs.Names.{Searchable};
 ghost use Rattle.store.specs.Tables.{variablesIn};
 ghost use Rattle.answer.specs.Read.{settingsOf, answerKind, readAnswerLine, allSet, readAnswer};
 ghost use Rattle.answer.specs.Internal.{entriesIn, SettingsSized, answerStep, answerResult};
@@ -56,7 +57,7 @@ fn read_line(
     values: &mut [u64; Edition::VARIABLES],
     solved: bool,
 ) -> AnswerProgress
-    requires { ⌜ (at < length (now line)) × (n ≤ maxVariables) × SettingsSized (now flags) (now values) ⌝ }
+    requires { ⌜ (at < length (now line)) × (n ≤ maxVariables) × Searchable (now file) (now variables) n × SettingsSized (now flags) (now values) ⌝ }
     ensures { λ r. ⌜ ((next : ℕ) → answerStep (entriesIn (now (flags .exit)) (now (values .exit)) n) r ≡ readAnswerLine (variablesIn (now (file .entry)) (now (variables .entry)) n) (settingsOf solved (entriesIn (now (flags .entry)) (now (values .entry)) n)) (lineAt (now (line .entry)) at next)) × SettingsSized (now (flags .exit)) (now (values .exit)) ⌝ }
 {
     match kind_of(line, at) {
@@ -78,7 +79,7 @@ fn read_any_line(
     values: &mut [u64; Edition::VARIABLES],
     solved: bool,
 ) -> AnswerProgress
-    requires { ⌜ (at ≤ length (now line)) × (n ≤ maxVariables) × SettingsSized (now flags) (now values) × (every isAllowed (drop at (now line)) ≡ true) ⌝ }
+    requires { ⌜ (at ≤ length (now line)) × (n ≤ maxVariables) × Searchable (now file) (now variables) n × SettingsSized (now flags) (now values) × (every isAllowed (drop at (now line)) ≡ true) ⌝ }
     ensures { λ r. ⌜ ((next : ℕ) → answerStep (entriesIn (now (flags .exit)) (now (values .exit)) n) r ≡ readAnyLine Answer (readAnswerLine (variablesIn (now (file .entry)) (now (variables .entry)) n)) (settingsOf solved (entriesIn (now (flags .entry)) (now (values .entry)) n)) (lineAt (now (line .entry)) at next)) × SettingsSized (now (flags .exit)) (now (values .exit)) ⌝ }
 {
     if all(line, at, Class::Space) {
@@ -96,7 +97,7 @@ fn read_lines(
     flags: &mut [u8; Edition::VARIABLES],
     values: &mut [u64; Edition::VARIABLES],
 ) -> AnswerProgress
-    requires { ⌜ (n ≤ maxVariables) × SettingsSized (now flags) (now values) ⌝ }
+    requires { ⌜ (n ≤ maxVariables) × Searchable (now file) (now variables) n × SettingsSized (now flags) (now values) ⌝ }
     ensures { λ r. ⌜ (answerStep (entriesIn (now (flags .exit)) (now (values .exit)) n) r ≡ readLines Answer (readAnswerLine (variablesIn (now (file .entry)) (now (variables .entry)) n)) (settingsOf false (entriesIn (now (flags .entry)) (now (values .entry)) n)) (textLines (now (answer .entry)))) × SettingsSized (now (flags .exit)) (now (values .exit)) ⌝ }
 {
     let mut solved = false;
@@ -146,7 +147,7 @@ pub fn read_answer(
     answer: &[u8],
     row: &mut [u64; Edition::VARIABLES],
 ) -> AnswerRead
-    requires { ⌜ (n ≤ maxVariables) × (length (now row) ≡ maxVariables) ⌝ }
+    requires { ⌜ (n ≤ maxVariables) × Searchable (now file) (now variables) n × (length (now row) ≡ maxVariables) ⌝ }
     ensures { λ r. ⌜ (answerResult (now (row .exit)) n r ≡ readAnswer (variablesIn (now (file .entry)) (now (variables .entry)) n) (now (answer .entry))) × (length (now (row .exit)) ≡ maxVariables) ⌝ }
 {
     if Edition::FILE_BYTES < answer.len() {

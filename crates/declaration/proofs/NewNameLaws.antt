@@ -3,37 +3,37 @@ use Prim.Native.Nat.{ℕ, _+_, _-_, _≤_, _<_}
 use Prim.Native.Char.{code}
 use mathlib.Core.Path.{_≡_, refl, ap, sym, _∙_}
 use mathlib.Core.Bool.{Bool, true, false, cond, not, _&&_}
-use mathlib.Core.List.{List, [], _∷_}
+use mathlib.Core.List.{List, [], _∷_, _++_, append-assoc}
 use mathlib.Core.Option.{none, some}
-use native.Mathlib.Decide.{decLt}
-use native.Mathlib.Numerals.{add-one}
 use native.Mathlib.Omega.{arith}
 use lib.Dec.{eqb, leb, ltb}
-use lib.ListN.{length, getD, take, drop, length-drop, drop-of-length-le}
-use lib.Seq.{drop-cons, drop-drop}
-use borrow.Author.Tests.{le-leb, lt-leb, lt-ltb, le-ltb, leb-true, not-false}
+use lib.ListN.{length, take, drop, length-drop}
+use borrow.Author.Tests.{le-leb, lt-leb, lt-ltb, le-ltb, leb-true, ltb-true, eqb-true}
 use Rattle.edition.specs.declared.Edition.{Edition}
 use Rattle.edition.specs.Edition.{maxVariables, maxNameBytes, maxWidth, isWidth}
 use Rattle.refusal.specs.Numbers.{misspelt, notAWidth, overLimit, nameTaken}
 use Rattle.refusal.specs.Lists.{every, isThere}
 use Rattle.refusal.specs.Result.{accepted, ensure, _>>_}
 use Rattle.refusal.proofs.BoolLaws.{and-true}
-use Rattle.text.specs.declared.Class.the-variants.{Until, Solid}
+use Rattle.refusal.proofs.ListLaws.{not-there}
+use Rattle.refusal.proofs.ResultLaws.{never}
+use Rattle.text.specs.declared.Class.the-variants.{Solid, NameByte}
 use Rattle.text.specs.declared.TypeRead.{TypeRead}
 use Rattle.text.specs.declared.TypeRead.the-variants.{Width, NoWidth, NoType}
-use Rattle.text.specs.Bytes.{frontOf}
+use Rattle.text.specs.Bytes.{frontOf, isLetter, isDigit, isNameByte}
 use Rattle.text.specs.Lines.{Token}
 use Rattle.text.specs.Spelling.{isName, isType, typeWidth, upTo, behind}
 use Rattle.text.specs.Scan.{isOf, past, typeOf, typeBehindColon}
-use Rattle.text.proofs.RunLaws.{run-take, run-rest, past-fails}
-use Rattle.text.proofs.TokenLaws.{find-bounds, up-to, behind-it}
+use Rattle.text.proofs.RunLaws.{every-of-run, run-part, strict-split, strict-rest}
+use Rattle.text.proofs.PartLaws.{first-fails, part-front, part-behind, part-bare, part-broken}
+use Rattle.text.proofs.FirstByteLaws.{name-solid, not-bytes}
 use Rattle.declaration.specs.declared.Declaration.{Declaration}
 use Rattle.declaration.specs.declared.Declaration.the-variants.{Fresh, Faulty}
 use Rattle.constraint.specs.File.{Variable, variableNamed}
 use Rattle.spelling.specs.Operators.{isReserved}
 use Rattle.constraint.specs.Read.{inConstraint, declare}
-use Rattle.text.specs.Scan.{tokenAt}
-use Rattle.declaration.specs.Internal.{declarationResult, newName, FreshFits}
+use Rattle.text.specs.Scan.{tokenFrom}
+use Rattle.declaration.specs.Internal.{declarationResult, newName, declarationOf}
 
 -- ---- a new name, from a place to the end of a text
 module _ (e : Edition) (xs : List Variable) (text : List ℕ) (start k n : ℕ) (l : length xs ≡ n) where
@@ -56,65 +56,102 @@ module _ (e : Edition) (xs : List Variable) (text : List ℕ) (start k n : ℕ) 
         unfolding newName
         new-declared i h = rw (length-drop, le-leb (length text - start) maxNameBytes short, l, lt-ltb n maxVariables room, free, ← h)
 
-        pub new-fresh : none ≡ variableNamed (drop start text) xs → Fresh (length text - start) k ≡ newName e xs (drop start text) k
+        pub new-fresh : none ≡ variableNamed (drop start text) xs → Fresh k ≡ newName e xs (drop start text) k
         unfolding newName
         new-fresh h = rw (length-drop, le-leb (length text - start) maxNameBytes short, l, lt-ltb n maxVariables room, free, ← h)
 
--- ---- a declaration, by its name, its type and what is said of a name with a width
-abbrev pub declarationOf : Bool → TypeRead → (ℕ → Declaration) → Declaration
-declarationOf false type new = Faulty misspelt
-declarationOf true NoType new = Faulty misspelt
-declarationOf true NoWidth new = Faulty notAWidth
-declarationOf true (Width k) new = new k
-
+-- ---- a declaration, by its parts
 -- the tests, whatever they say
-split : (t : Token) (name : List ℕ) (k : ℕ) → name ≡ take (length name) (t .bytes) → (named type width small free : Bool) → declarationResult t (declarationOf named (cond type (cond width (Width k) NoWidth) NoType) (λ k. cond small (cond free (Fresh (length name) k) (Faulty nameTaken)) (Faulty overLimit))) ≡ (do
+split : (t : Token) (name : List ℕ) (k : ℕ) (named type width small free : Bool) → declarationResult t name (declarationOf named (cond type (cond width (Width k) NoWidth) NoType) (λ k. cond small (cond free (Fresh k) (Faulty nameTaken)) (Faulty overLimit))) ≡ (do
   ensure (named && type) (inConstraint t misspelt)
   ensure width (inConstraint t notAWidth)
   ensure small (inConstraint t overLimit)
   ensure free (inConstraint t nameTaken)
   accepted (record { name = name; width = k }))
-split t name k e false type width small free = refl
-split t name k e true false width small free = refl
-split t name k e true true false small free = refl
-split t name k e true true true false free = refl
-split t name k e true true true true false = refl
-split t name k e true true true true true = ap (λ s. accepted (record { name = s; width = k })) (sym e)
+split t name k false type width small free = refl
+split t name k true false width small free = refl
+split t name k true true false small free = refl
+split t name k true true true false free = refl
+split t name k true true true true false = refl
+split t name k true true true true true = refl
 
--- the type of a token that ends with the text, from its first colon on
-type-from : (text : List ℕ) (start colon : ℕ) → start ≤ length text → colon ≡ past (isOf (Until (code ":"))) text start → every (isOf Solid) (drop start text) ≡ true → typeBehindColon (frontOf (isOf Solid) (drop colon text)) ≡ typeOf (drop (colon + 1) text)
-unfolding typeBehindColon typeOf isType isOf
-type-from text start colon h found solid =
-    let b = find-bounds text start (code ":") colon h found in
-    let z : start + (colon - start) ≡ colon = omega arith in
-    let r : frontOf (isOf Solid) (drop colon text) ≡ drop colon text = rw (drop-drop, z) at (run-rest (isOf Solid) (drop start text) (colon - start) solid) in
-    ap typeBehindColon r
-    ∙ elim (decLt colon (length text)) [
-      | yes l ↦ rw (drop-cons text colon 0 l, add-one, not-false (eqb (getD text colon 0) (code ":")) (rw (← found) at (past-fails (isOf (Until (code ":"))) text start (rw found at l))))
-      | no l ↦ (let k : length text ≤ colon = omega arith in let m : length text ≤ colon + 1 = omega arith in rw (drop-of-length-le text k, drop-of-length-le text m))
-    ]
+-- no type, no declaration
+no-type : (named : Bool) (new : ℕ → Declaration) → declarationOf named NoType new ≡ Faulty misspelt
+no-type false new = refl
+no-type true new = refl
 
-front : (c : ℕ) (s : List ℕ) → upTo c s ≡ take (length (upTo c s)) s
-unfolding upTo
-front c s = run-take _ s
+colon-no-name : isNameByte 58 ≡ false
+unfolding isNameByte isLetter isDigit
+colon-no-name = refl
 
 module _ (e : Edition) (xs : List Variable) where
-  whole : (t : Token) → declarationResult t (declarationOf (isName (upTo (code ":") (t .bytes))) (typeOf (behind (code ":") (t .bytes))) (newName e xs (upTo (code ":") (t .bytes)))) ≡ declare e xs t
+  declare-is : (t : Token) → let name = upTo (code ":") (t .bytes) in declarationResult t name (declarationOf (isName name) (typeOf (behind (code ":") (t .bytes))) (newName e xs name)) ≡ declare e xs t
   unfolding declare typeOf newName
-  whole t =
+  declare-is t =
       let name = upTo (code ":") (t .bytes) in
       let type = behind (code ":") (t .bytes) in
-      split t name (typeWidth type) (front (code ":") (t .bytes)) (isName name) (isType type) (isWidth (typeWidth type)) (leb (length name) maxNameBytes && ltb (length xs) maxVariables) (not (isReserved e name) && not (isThere (variableNamed name xs)))
+      split t name (typeWidth type) (isName name) (isType type) (isWidth (typeWidth type)) (leb (length name) maxNameBytes && ltb (length xs) maxVariables) (not (isReserved e name) && not (isThere (variableNamed name xs)))
 
-  -- the same at a place of a text, whose colon a scan finds
-  module _ (text : List ℕ) (start colon : ℕ) (h : start ≤ length text) (found : colon ≡ past (isOf (Until (code ":"))) text start) (solid : every (isOf Solid) (drop start text) ≡ true) where
-    pub declare-by : (named : Bool) → named ≡ isName (drop start (take colon text)) → (type : TypeRead) → type ≡ typeBehindColon (frontOf (isOf Solid) (drop colon text)) → declarationResult (tokenAt text start) (declarationOf named type (newName e xs (drop start (take colon text)))) ≡ declare e xs (tokenAt text start)
-    declare-by named p type q = rw (p, q, type-from text start colon h found solid, ← up-to text start (code ":") colon h found, ← behind-it text start (code ":") colon h found) (whole (tokenAt text start))
+  whole : (t : Token) (s : List ℕ) → t .bytes ≡ s → declarationResult t (upTo 58 s) (declarationOf (isName (upTo 58 s)) (typeOf (behind 58 s)) (newName e xs (upTo 58 s))) ≡ declare e xs t
+  whole t s q = rw (← q) (declare-is t)
 
--- what fits into the front of a text fits into the text
-pub fits-within : (d : Declaration) (n start m end : ℕ) → m ≤ end → FreshFits n start m d → FreshFits n start end d
-fits-within (Fresh len k) n start m end h f = (f .0, omega arith, f .2, f .3)
-fits-within (Faulty number) n start m end h f = tt
+  -- a token of bytes of a name and what stands behind them, which starts with none
+  parts-declared : (t : Token) (name rest : List ℕ) → every isNameByte name ≡ true → t .bytes ≡ name ++ rest → frontOf isNameByte rest ≡ [] → declarationResult t name (declarationOf (isName name) (typeBehindColon rest) (newName e xs name)) ≡ declare e xs t
+  unfolding typeBehindColon typeOf isType
+  parts-declared t name [] h q r =
+      rw (no-type (isName name) (newName e xs name))
+      (rw (part-bare isNameByte 58 colon-no-name name h, no-type (isName (upTo 58 (name ++ []))) (newName e xs (upTo 58 (name ++ [])))) at (whole t (name ++ []) q))
+  parts-declared t name (b ∷ s) h q r = go (eqb b 58) refl
+    where
+      go : (c : Bool) → eqb b 58 ≡ c → declarationResult t name (declarationOf (isName name) (cond c (typeOf s) NoType) (newName e xs name)) ≡ declare e xs t
+      go true c =
+          let z : t .bytes ≡ name ++ (58 ∷ []) ++ s = q ∙ ap (λ (x : ℕ). name ++ x ∷ s) (eqb-true b 58 c) ∙ sym (append-assoc name (58 ∷ []) s) in
+          rw (part-front isNameByte 58 colon-no-name name h s, part-behind isNameByte 58 colon-no-name name h s) at (whole t (name ++ (58 ∷ []) ++ s) z)
+      go false c =
+          rw (no-type (isName name) (newName e xs name))
+          (rw (not-bytes (upTo 58 (name ++ b ∷ s)) (part-broken isNameByte 58 colon-no-name name h b s (first-fails isNameByte b s r) c)) at (whole t (name ++ b ∷ s) q))
+
+  -- the token that starts at a place of a line, where bytes of a name reach to `stop`
+  module _ (line : List ℕ) (start stop : ℕ) (h : start ≤ length line) (hs : stop ≡ past (isOf NameByte) line start) where
+    pub declared-by : (type : TypeRead) → type ≡ typeBehindColon (frontOf (isOf Solid) (drop stop line)) → let name = drop start (take stop line) in declarationResult (tokenFrom line start) name (declarationOf (isName name) type (newName e xs name)) ≡ declare e xs (tokenFrom line start)
+    unfolding isOf
+    declared-by type k =
+        let part = sym (run-part (isOf NameByte) line start h ∙ ap (λ n. drop start (take n line)) (sym hs)) in
+        rw (k, part)
+        (parts-declared (tokenFrom line start) (frontOf (isOf NameByte) (drop start line)) (frontOf (isOf Solid) (drop stop line)) (every-of-run (isOf NameByte) (drop start line)) (sym (run-part (isOf Solid) line start h) ∙ strict-split (isOf NameByte) (isOf Solid) name-solid line start stop h hs) (strict-rest (isOf NameByte) (isOf Solid) name-solid line start stop h hs))
+
+-- ---- a declaration that is fresh
+fresh-other : {A : Type 0} {k number : ℕ} → Fresh k ≡ Faulty number → A
+fresh-other e = never (cc e)
+
+pub record FreshName (xs : List Variable) (name : List ℕ) (type : TypeRead) (k : ℕ) : Type 0 where
+  pub short : length name ≤ maxNameBytes
+  pub room : length xs < maxVariables
+  pub new : variableNamed name xs ≡ none
+  pub typed : type ≡ Width k
+
+module _ (e : Edition) (xs : List Variable) (name : List ℕ) (k : ℕ) where
+  new-is-fresh : (j : ℕ) → Fresh k ≡ newName e xs name j → FreshName xs name (Width j) k
+  unfolding newName
+  new-is-fresh j = go (leb (length name) maxNameBytes && ltb (length xs) maxVariables) (not (isReserved e name) && not (isThere (variableNamed name xs))) refl refl
+    where
+      go : (small free : Bool) → (leb (length name) maxNameBytes && ltb (length xs) maxVariables) ≡ small → (not (isReserved e name) && not (isThere (variableNamed name xs))) ≡ free → Fresh k ≡ cond small (cond free (Fresh j) (Faulty nameTaken)) (Faulty overLimit) → FreshName xs name (Width j) k
+      go true true s f q =
+          let p = and-true (leb (length name) maxNameBytes) (ltb (length xs) maxVariables) s in
+          record {
+            short = leb-true (length name) maxNameBytes (p .0);
+            room = ltb-true (length xs) maxVariables (p .1);
+            new = not-there (variableNamed name xs) (and-true (not (isReserved e name)) (not (isThere (variableNamed name xs))) f .1);
+            typed = cc q;
+          }
+      go true false s f q = fresh-other q
+      go false free s f q = fresh-other q
+
+  pub fresh-is : (named : Bool) (type : TypeRead) → Fresh k ≡ declarationOf named type (newName e xs name) → FreshName xs name type k
+  fresh-is false type q = fresh-other q
+  fresh-is true NoType q = fresh-other q
+  fresh-is true NoWidth q = fresh-other q
+  fresh-is true (Width j) q = new-is-fresh j q
 
 -- a width that is read is within the limit
 abbrev WidthFits : TypeRead → Type 0

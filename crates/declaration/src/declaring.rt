@@ -4,39 +4,38 @@ use edition::Edition;
 use refusal::Refusal;
 use spelling::is_reserved;
 use store::Found;
-use store::names::lookup;
-use text::Class;
+use store::names::find;
 use text::TypeRead;
-use text::numbers::type_at;
 use text::scan::is_name;
-use text::scan::scan;
 ghost use mathlib.Core.Path.{_≡_};
 ghost use mathlib.Core.Bool.{true};
 ghost use Prim.Native.Nat.{_≤_};
 ghost use lib.ListN.{length, drop};
 ghost use Rattle.edition.specs.declared.Edition.{Edition as TheEdition};
-ghost use Rattle.edition.specs.Edition.{maxVariables, maxWidth};
+ghost use Rattle.edition.specs.Edition.{maxVariables};
 ghost use Rattle.refusal.specs.Lists.{every};
-ghost use Rattle.text.specs.declared.Class.the-variants.{Solid};
-ghost use Rattle.text.specs.Scan.{isOf, tokenAt};
-ghost use Rattle.constraint.specs.Read.{declare as declareBy};
+ghost use Rattle.text.specs.declared.Class.the-variants.{NameByte};
+ghost use Rattle.text.specs.Scan.{isOf};
+ghost use Rattle.text.specs.Spelling.{isName};
+ghost use Rattle.store.specs.Hash.{hashOf};
+ghost use Rattle.store.specs.Names.{Searchable};
 ghost use Rattle.store.specs.Tables.{variablesIn};
-ghost use Rattle.declaration.specs.Internal.{declarationResult, newName, FreshFits};
+ghost use Rattle.declaration.specs.Internal.{newName, declarationOf};
 
-// A name from `at` to the end of the text that is new: not reserved, not declared, and there is room for it.
+// A name from `at` to the end of the text, with that hash, that is new: not reserved, not declared, and there is room for it.
 fn new_name(
     file: &[u8],
     variables: &[u64; Edition::VARIABLES],
     n: usize,
     text: &[u8],
     at: usize,
-    k: u64,
+    hash: u32,
+    width: u64,
 ) -> Declaration
-    requires { ⌜ (at ≤ length (now text)) × (n ≤ maxVariables) × (k ≤ maxWidth) ⌝ }
-    ensures { λ r. ⌜ ((e : TheEdition) → r ≡ newName e (variablesIn (now (file .entry)) (now (variables .entry)) n) (drop at (now (text .entry))) k) × FreshFits n at (length (now (text .entry))) r ⌝ }
+    requires { ⌜ (at ≤ length (now text)) × (n ≤ maxVariables) × Searchable (now file) (now variables) n × (hash ≡ hashOf (drop at (now text))) ⌝ }
+    ensures { λ r. ⌜ ((e : TheEdition) → r ≡ newName e (variablesIn (now (file .entry)) (now (variables .entry)) n) (drop at (now (text .entry))) width) ⌝ }
 {
-    let len = text.len() - at;
-    if Edition::NAME_BYTES < len {
+    if Edition::NAME_BYTES < text.len() - at {
         return Declaration::Faulty(Refusal::OVER_LIMIT);
     }
     if Edition::VARIABLES <= n {
@@ -45,31 +44,30 @@ fn new_name(
     if is_reserved(text, at) {
         return Declaration::Faulty(Refusal::NAME_TAKEN);
     }
-    match lookup(file, variables, n, text, at) {
+    match find(file, variables, n, text, at, hash) {
         Found::At(_) => Declaration::Faulty(Refusal::NAME_TAKEN),
-        Found::Nowhere => Declaration::Fresh(len, k),
+        Found::Nowhere => Declaration::Fresh(width),
     }
 }
 
-// What the declaration from `at` to the end of the text says.
+// The declaration of the bytes of a name from `at` to the end of the text, with that hash, and of the type behind them.
 pub(crate) fn declare(
     file: &[u8],
     variables: &[u64; Edition::VARIABLES],
     n: usize,
     text: &[u8],
     at: usize,
+    hash: u32,
+    kind: TypeRead,
 ) -> Declaration
-    requires { ⌜ (at ≤ length (now text)) × (n ≤ maxVariables) × (every (isOf Solid) (drop at (now text)) ≡ true) ⌝ }
-    ensures { λ r. ⌜ ((e : TheEdition) → declarationResult (tokenAt (now (text .entry)) at) r ≡ declareBy e (variablesIn (now (file .entry)) (now (variables .entry)) n) (tokenAt (now (text .entry)) at)) × FreshFits n at (length (now (text .entry))) r ⌝ }
+    requires { ⌜ (at ≤ length (now text)) × (n ≤ maxVariables) × Searchable (now file) (now variables) n × (hash ≡ hashOf (drop at (now text))) × (every (isOf NameByte) (drop at (now text)) ≡ true) ⌝ }
+    ensures { λ r. ⌜ ((e : TheEdition) → r ≡ declarationOf (isName (drop at (now (text .entry)))) kind (newName e (variablesIn (now (file .entry)) (now (variables .entry)) n) (drop at (now (text .entry))))) ⌝ }
 {
-    let colon = scan(text, at, Class::Until(b':'));
-    let found = type_at(text, colon);
-    let kind = found.kind;
-    if is_name(&text[..colon], at) {
+    if is_name(text, at) {
         match kind {
             TypeRead::NoType => Declaration::Faulty(Refusal::MISSPELT),
             TypeRead::NoWidth => Declaration::Faulty(Refusal::NOT_A_WIDTH),
-            TypeRead::Width(k) => new_name(file, variables, n, &text[..colon], at, k),
+            TypeRead::Width(k) => new_name(file, variables, n, text, at, hash, k),
         }
     } else {
         Declaration::Faulty(Refusal::MISSPELT)

@@ -6,10 +6,16 @@ pub mod declarations;
 mod declaring;
 pub mod header;
 
-// A name's length and a width, or the number of the token's refusal.
+// The width of a new name, or the number of the token's refusal.
 pub enum Declaration {
-    Fresh(usize, u64),
+    Fresh(u64),
     Faulty(u8),
+}
+
+// Where the token of a declaration stops that was put into the table.
+pub enum Put {
+    UpTo(usize),
+    NotPut(Refusal),
 }
 
 // How many variables there are after a `d` line.

@@ -1,17 +1,16 @@
 -- A constant by what its two parts are read as. Assumes nothing.
-use Prim.Native.Nat.{ℕ, suc, _-_, _%_, _^_, _≤_}
+use Prim.Native.Nat.{ℕ, _-_, _%_, _^_, _≤_}
 use Prim.Native.Char.{code}
 use mathlib.Core.Path.{_≡_, refl, ap, sym, _∙_}
 use mathlib.Core.Bool.{Bool, true, false, cond, not, _&&_}
-use mathlib.Core.List.{List, [], _∷_, _++_, append-assoc, append-nil}
+use mathlib.Core.List.{List, [], _∷_, _++_, append-assoc}
 use native.Mathlib.Omega.{arith}
 use lib.Dec.{eqb, leb, ltb}
-use lib.ListN.{length, take, drop, drop-of-length-le}
-use borrow.Author.Tests.{ne-eqb, eqb-true}
+use lib.ListN.{length, take, drop}
+use borrow.Author.Tests.{eqb-true}
 use Rattle.edition.specs.Edition.{isWidth}
 use Rattle.refusal.specs.Lists.{every}
 use Rattle.refusal.proofs.BoolLaws.{and-one, and-false, fails}
-use Rattle.refusal.proofs.ListLaws.{every-weaken, every-broken}
 use Rattle.refusal.specs.Numbers.{misspelt, notAWidth, numberTooLarge}
 use Rattle.refusal.specs.Result.{accepted, refused, ensure, _>>_}
 use Rattle.text.specs.Bytes.{frontOf, isDigit, isLetter}
@@ -23,11 +22,10 @@ use Rattle.text.specs.declared.Number.the-variants.{Value, TooBig, Misspelt}
 use Rattle.text.specs.declared.TypeRead.{TypeRead}
 use Rattle.text.specs.declared.TypeRead.the-variants.{Width, NoWidth, NoType}
 use Rattle.text.specs.Scan.{isOf, past, magnitude, numberRead, typeOf, typeBehindColon, StopsAt}
-use Rattle.text.proofs.AppendLaws.{run-through, run-front}
-use Rattle.text.proofs.TokenLaws.{up-to-join, behind-join}
+use Rattle.text.proofs.PartLaws.{first-fails, part-front, part-behind, part-bare, part-broken}
 use Rattle.text.proofs.RunLaws.{every-of-run, run-part, scan-place, strict-split, strict-rest, strict-on}
 use Rattle.text.proofs.FirstByteLaws.{digit-solid}
-use Rattle.text.proofs.SeenLaws.{digit-bounds, letter-other}
+use Rattle.text.proofs.SeenLaws.{letter-other}
 use Rattle.arithmetic.proofs.RuleLaws.{width-is}
 use Rattle.constraint.specs.File.{Variable}
 use Rattle.store.specs.Tables.{variableMark, operandOf, headWidth}
@@ -83,20 +81,13 @@ constant-bytes : (t : Token) (s : List ℕ) → t .bytes ≡ s → operandResult
 constant-bytes t s q = rw (← q) (constant-is t)
 
 -- ---- digits, and what stands behind them in a token
-digit-other : (b : ℕ) → isDigit b ≡ true → not (eqb b 58) ≡ true
-digit-other b e = rw (ne-eqb b 58 (omega (arith, digit-bounds b e)))
+colon-no-digit : isDigit 58 ≡ false
+unfolding isDigit
+colon-no-digit = refl
 
 every-none : every isDigit [] ≡ true
 unfolding every
 every-none = refl
-
--- the first byte of a run
-run-cons : (p : ℕ → Bool) (b : ℕ) (s : List ℕ) → p b ≡ true → frontOf p (b ∷ s) ≡ b ∷ frontOf p s
-unfolding frontOf
-run-cons p b s e = rw e
-
-first-fails : (p : ℕ → Bool) (b : ℕ) (s : List ℕ) → frontOf p (b ∷ s) ≡ [] → p b ≡ false
-first-fails p b s r = fails (p b) (λ e. omega (arith, ap length (sym (run-cons p b s e) ∙ r)))
 
 never-good : {A : Type 0} {number head body : ℕ} → Bad number ≡ Good head body → A
 never-good e = let z : _≡_ {A = ℕ} 0 1 = cc e in absurd (omega arith)
@@ -108,27 +99,19 @@ no-type TooBig = refl
 no-type (Value v) = refl
 
 module _ (ds : List ℕ) (e : every isDigit ds ≡ true) where
-  no-colon : every (λ b. not (eqb b 58)) ds ≡ true
-  no-colon = every-weaken isDigit (λ b. not (eqb b 58)) digit-other ds e
-
   counted-is : (n : ℕ) → numberRead n ds ≡ cond (leb 1 (length ds) && leb (length ds) n) (magnitude ds) Misspelt
   unfolding numberRead isNumeral
   counted-is n = rw (e, and-one (leb 1 (length ds) && leb (length ds) n))
 
   -- only digits: nothing stands behind a colon
   bare-type : typeOf (behind 58 (ds ++ [])) ≡ NoType
-  unfolding behind upTo typeOf isType frontOf
-  bare-type =
-      let r : frontOf (λ b. not (eqb b 58)) ds ≡ ds = rw (append-nil ds) at (run-front (λ b. not (eqb b 58)) ds [] no-colon refl) in
-      let k : length ds ≤ suc (length ds) = omega arith in
-      rw (append-nil ds, r, drop-of-length-le ds k)
+  unfolding typeOf isType
+  bare-type = rw (part-bare isDigit 58 colon-no-digit ds e)
 
   -- another byte than a colon: no number
   other-number : (n b : ℕ) (s : List ℕ) → isDigit b ≡ false → eqb b 58 ≡ false → numberRead n (upTo 58 (ds ++ b ∷ s)) ≡ Misspelt
-  unfolding upTo numberRead isNumeral
-  other-number n b s d c =
-      let front : frontOf (λ x. not (eqb x 58)) (b ∷ s) ≡ b ∷ frontOf (λ x. not (eqb x 58)) s = run-cons (λ x. not (eqb x 58)) b s (ap not c) in
-      rw (run-through (λ x. not (eqb x 58)) ds (b ∷ s) no-colon, front, every-broken isDigit ds b (frontOf (λ x. not (eqb x 58)) s) d, and-false)
+  unfolding numberRead isNumeral
+  other-number n b s d c = rw (part-broken isDigit 58 colon-no-digit ds e b s d c, and-false)
 
   -- a token of digits and what stands behind them, which starts with no digit
   parts-read : (t : Token) (rest : List ℕ) → t .bytes ≡ ds ++ rest → frontOf isDigit rest ≡ [] → operandResult t (constantOf (cond (leb 1 (length ds) && leb (length ds) maxDigits) (magnitude ds) Misspelt) (typeBehindColon rest)) ≡ readConstant t
@@ -139,7 +122,7 @@ module _ (ds : List ℕ) (e : every isDigit ds ≡ true) where
       go : (c : Bool) → eqb b 58 ≡ c → operandResult t (constantOf (cond (leb 1 (length ds) && leb (length ds) maxDigits) (magnitude ds) Misspelt) (cond c (typeOf s) NoType)) ≡ readConstant t
       go true c =
           let z : t .bytes ≡ ds ++ (58 ∷ []) ++ s = q ∙ ap (λ (x : ℕ). ds ++ x ∷ s) (eqb-true b 58 c) ∙ sym (append-assoc ds (58 ∷ []) s) in
-          rw (up-to-join 58 s ds no-colon, behind-join 58 s ds no-colon, counted-is maxDigits) at (constant-bytes t (ds ++ (58 ∷ []) ++ s) z)
+          rw (part-front isDigit 58 colon-no-digit ds e s, part-behind isDigit 58 colon-no-digit ds e s, counted-is maxDigits) at (constant-bytes t (ds ++ (58 ∷ []) ++ s) z)
       go false c =
           rw (no-type (cond (leb 1 (length ds) && leb (length ds) maxDigits) (magnitude ds) Misspelt))
           (rw (other-number maxDigits b s (first-fails isDigit b s r) c) at (constant-bytes t (ds ++ b ∷ s) q))

@@ -51,7 +51,7 @@ first-byte line start stop h k = drop-cons (take stop line) start 0 (omega (arit
 
 module _ (xs : List Variable) (line : List ℕ) (start : ℕ) (h : start < length line) where
   -- the token starts with a letter, and bytes of a name reach to `stop`
-  module _ (a : isLetter (getD line start 0) ≡ true) (stop : ℕ) (hs : stop ≡ past (isOf NameByte) line (start + 1)) where
+  module _ (a : isLetter (getD line start 0) ≡ true) (stop : ℕ) (hs : stop ≡ past (isOf NameByte) line start) where
     module _ (e : endsToken (drop stop line) ≡ true) where
       name-read : readVariable xs (tokenAt (take stop line) start) ≡ readOperand xs (tokenAt (take stop line) start)
       name-read = operand-name xs (tokenAt (take stop line) start) (name-whole line start h a stop hs)

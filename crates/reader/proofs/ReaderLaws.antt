@@ -23,8 +23,9 @@ use Rattle.constraint.specs.Read.{kindOf, readAs, readLine, readFile}
 use Rattle.store.specs.declared.Added.{Added}
 use Rattle.store.specs.declared.Added.the-variants.{NoPart, VersionPart, ExpectationPart, VariablesPart, LinePart, Fault}
 use Rattle.store.specs.declared.Progress.{Progress}
+use Rattle.store.specs.Names.{Searchable}
 use Rattle.store.specs.Tables.{tabulate, variablesIn, lineIn, linesIn, LinesKept, HeadsFit, Store, storeOf}
-use Rattle.store.specs.Progress.{nothingRead, storedFile, withLineRead, HeadsInUseFit, InTables, advanced, AddsHeader, AddsVariables, HasRoom, StepInTables, StepHeadsFit}
+use Rattle.store.specs.Progress.{nothingRead, storedFile, withLineRead, HeadsInUseFit, InTables, advanced, AddsHeader, AddsVariables, HasRoom, StepInTables, StepHeadsFit, StepSearchable}
 use Rattle.store.proofs.LineTableLaws.{lines-length, lines-more, lines-kept, fit-kept}
 use Rattle.store.proofs.LookupLaws.{variables-length}
 use Rattle.reader.specs.declared.Inspected.the-variants.{Sound}
@@ -48,6 +49,14 @@ module _ (bytes : List ℕ) (t : Store) (p : Progress) where
   header-fits (VariablesPart n) a f = absurd a
   header-fits LinePart a f = absurd a
   header-fits (Fault r) a f = tt
+
+  pub header-searchable : (added : Added) → AddsHeader added → Searchable bytes (t .variables) (p .variables) → StepSearchable bytes (t .variables) (advanced p added)
+  header-searchable NoPart a h = h
+  header-searchable (VersionPart e) a h = h
+  header-searchable (ExpectationPart n) a h = h
+  header-searchable (VariablesPart n) a h = absurd a
+  header-searchable LinePart a h = absurd a
+  header-searchable (Fault r) a h = tt
 
   -- before the first line no head needs to fit
   pub variables-fit : (added : Added) → AddsVariables p added → StepHeadsFit bytes t (advanced p added)

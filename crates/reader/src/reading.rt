@@ -16,7 +16,6 @@ use store::Step;
 use store::Version;
 use store::lines::TABLE_BODIES;
 use store::lines::TABLE_HEADS;
-use store::names::BYTES;
 use text::Class;
 use text::LineFound;
 use text::scan::all;
@@ -35,9 +34,9 @@ ghost use Rattle.text.specs.Bytes.{isAllowed};
 ghost use Rattle.text.specs.Scan.{lineAt};
 ghost use Rattle.constraint.specs.File.{emptyFile};
 ghost use Rattle.constraint.specs.Read.{kindOf, readStatement, addLine, readLine, readFile};
-ghost use Rattle.constraint.specs.Sound.{Distinct};
-ghost use Rattle.store.specs.Tables.{byteValues, tableHeads, tableBodies, variablesIn, storeOf, StoreSized};
-ghost use Rattle.store.specs.Progress.{nothingRead, storedFile, HeadsInUseFit, InTables, stepResult, advanced, addedResult, HasRoom, StepInTables, StepHeadsFit};
+ghost use Rattle.store.specs.Names.{Searchable};
+ghost use Rattle.store.specs.Tables.{tableHeads, tableBodies, storeOf, StoreSized};
+ghost use Rattle.store.specs.Progress.{nothingRead, storedFile, HeadsInUseFit, InTables, stepResult, advanced, addedResult, HasRoom, StepInTables, StepHeadsFit, StepSearchable};
 
 // The kind of the line from `at` to the end.
 fn kind_of(line: &[u8], at: usize) -> Kind
@@ -66,35 +65,23 @@ fn kind_of(line: &[u8], at: usize) -> Kind
 }
 
 // The `c` or `p` line that stops at `stop`, from `at` on, put behind those that are held.
-fn read_statement<'a>(
+fn read_statement(
     file: &[u8],
     stop: usize,
     at: usize,
     form: Form,
-    variables: &'a [u64; Edition::VARIABLES],
-    guesses: &'a [usize; BYTES],
+    variables: &[u64; Edition::VARIABLES],
     heads: &mut [u8; TABLE_HEADS],
     bodies: &mut [u64; TABLE_BODIES],
     p: Progress,
 ) -> Added
-    requires { ⌜ (at < stop) × (stop ≤ length (now file)) × InTables p × (length (now heads) ≡ tableHeads) × (length (now bodies) ≡ tableBodies) × Distinct (variablesIn (now file) (now variables) (p .variables)) ⌝ }
-    ensures { λ r. ⌜ ((next : ℕ) → addedResult (now (file .entry)) (storeOf (now (variables .entry)) (now (heads .exit)) (now (bodies .exit))) p r ≡ addLine (storedFile (now (file .entry)) (storeOf (now (variables .entry)) (now (heads .entry)) (now (bodies .entry))) p) (readStatement form (storedFile (now (file .entry)) (storeOf (now (variables .entry)) (now (heads .entry)) (now (bodies .entry))) p) (lineAt (take stop (now (file .entry))) at next))) × (length (now (heads .exit)) ≡ tableHeads) × (length (now (bodies .exit)) ≡ tableBodies) × HasRoom p r × (HeadsInUseFit (now (file .entry)) (storeOf (now (variables .entry)) (now (heads .entry)) (now (bodies .entry))) p → StepHeadsFit (now (file .entry)) (storeOf (now (variables .entry)) (now (heads .exit)) (now (bodies .exit))) (advanced p r)) ⌝ }
+    requires { ⌜ (at < stop) × (stop ≤ length (now file)) × InTables p × (length (now heads) ≡ tableHeads) × (length (now bodies) ≡ tableBodies) × Searchable (now file) (now variables) (p .variables) ⌝ }
+    ensures { λ r. ⌜ ((next : ℕ) → addedResult (now (file .entry)) (storeOf (now (variables .entry)) (now (heads .exit)) (now (bodies .exit))) p r ≡ addLine (storedFile (now (file .entry)) (storeOf (now (variables .entry)) (now (heads .entry)) (now (bodies .entry))) p) (readStatement form (storedFile (now (file .entry)) (storeOf (now (variables .entry)) (now (heads .entry)) (now (bodies .entry))) p) (lineAt (take stop (now (file .entry))) at next))) × (length (now (heads .exit)) ≡ tableHeads) × (length (now (bodies .exit)) ≡ tableBodies) × HasRoom p r × (HeadsInUseFit (now (file .entry)) (storeOf (now (variables .entry)) (now (heads .entry)) (now (bodies .entry))) p → StepHeadsFit (now (file .entry)) (storeOf (now (variables .entry)) (now (heads .exit)) (now (bodies .exit))) (advanced p r)) × StepSearchable (now (file .entry)) (now (variables .entry)) (advanced p r) ⌝ }
 {
     let n = p.variables;
     let m = p.lines;
     let line = &file[..stop];
-    match statement_line(
-        file,
-        variables,
-        guesses,
-        n,
-        line,
-        at,
-        form,
-        heads,
-        bodies,
-        m,
-    ) {
+    match statement_line(file, variables, n, line, at, form, heads, bodies, m) {
         LineRead::NoLine(r) => Added::Fault(r),
         LineRead::Complete => Added::LinePart,
     }
@@ -106,21 +93,20 @@ fn read_line(
     stop: usize,
     at: usize,
     variables: &mut [u64; Edition::VARIABLES],
-    guesses: &mut [usize; BYTES],
     heads: &mut [u8; TABLE_HEADS],
     bodies: &mut [u64; TABLE_BODIES],
     p: Progress,
 ) -> Added
-    requires { ⌜ (at < stop) × (stop ≤ length (now file)) × (length (now file) ≤ maxFileBytes) × InTables p × StoreSized (storeOf (now variables) (now heads) (now bodies)) × (length (now guesses) ≡ byteValues) × Distinct (variablesIn (now file) (now variables) (p .variables)) ⌝ }
-    ensures { λ r. ⌜ ((next : ℕ) → addedResult (now (file .entry)) (storeOf (now (variables .exit)) (now (heads .exit)) (now (bodies .exit))) p r ≡ readLine (storedFile (now (file .entry)) (storeOf (now (variables .entry)) (now (heads .entry)) (now (bodies .entry))) p) (lineAt (take stop (now (file .entry))) at next)) × StoreSized (storeOf (now (variables .exit)) (now (heads .exit)) (now (bodies .exit))) × (length (now (guesses .exit)) ≡ byteValues) × HasRoom p r × (HeadsInUseFit (now (file .entry)) (storeOf (now (variables .entry)) (now (heads .entry)) (now (bodies .entry))) p → StepHeadsFit (now (file .entry)) (storeOf (now (variables .exit)) (now (heads .exit)) (now (bodies .exit))) (advanced p r)) ⌝ }
+    requires { ⌜ (at < stop) × (stop ≤ length (now file)) × (length (now file) ≤ maxFileBytes) × InTables p × StoreSized (storeOf (now variables) (now heads) (now bodies)) × Searchable (now file) (now variables) (p .variables) ⌝ }
+    ensures { λ r. ⌜ ((next : ℕ) → addedResult (now (file .entry)) (storeOf (now (variables .exit)) (now (heads .exit)) (now (bodies .exit))) p r ≡ readLine (storedFile (now (file .entry)) (storeOf (now (variables .entry)) (now (heads .entry)) (now (bodies .entry))) p) (lineAt (take stop (now (file .entry))) at next)) × StoreSized (storeOf (now (variables .exit)) (now (heads .exit)) (now (bodies .exit))) × StepSearchable (now (file .entry)) (now (variables .exit)) (advanced p r) × HasRoom p r × (HeadsInUseFit (now (file .entry)) (storeOf (now (variables .entry)) (now (heads .entry)) (now (bodies .entry))) p → StepHeadsFit (now (file .entry)) (storeOf (now (variables .exit)) (now (heads .exit)) (now (bodies .exit))) (advanced p r)) ⌝ }
 {
     match kind_of(&file[..stop], at) {
         Kind::Skipped => Added::NoPart,
         Kind::OfVersion => header_line(&file[..stop], at, p, HeaderLine::VersionLine),
         Kind::OfExpectation => header_line(&file[..stop], at, p, HeaderLine::ExpectationLine),
-        Kind::OfDeclarations => declaration_line(file, stop, at, variables, guesses, p),
+        Kind::OfDeclarations => declaration_line(file, stop, at, variables, p),
         Kind::OfStatement(form) => {
-            read_statement(file, stop, at, form, variables, guesses, heads, bodies, p)
+            read_statement(file, stop, at, form, variables, heads, bodies, p)
         }
         Kind::OfNoKind => Added::Fault(refusal(Refusal::UNKNOWN_LINE, at)),
     }
@@ -132,18 +118,17 @@ fn read_any_line(
     stop: usize,
     at: usize,
     variables: &mut [u64; Edition::VARIABLES],
-    guesses: &mut [usize; BYTES],
     heads: &mut [u8; TABLE_HEADS],
     bodies: &mut [u64; TABLE_BODIES],
     p: Progress,
 ) -> Added
-    requires { ⌜ (at ≤ stop) × (stop ≤ length (now file)) × (length (now file) ≤ maxFileBytes) × InTables p × StoreSized (storeOf (now variables) (now heads) (now bodies)) × (length (now guesses) ≡ byteValues) × Distinct (variablesIn (now file) (now variables) (p .variables)) × (every isAllowed (drop at (take stop (now file))) ≡ true) ⌝ }
-    ensures { λ r. ⌜ ((next : ℕ) → addedResult (now (file .entry)) (storeOf (now (variables .exit)) (now (heads .exit)) (now (bodies .exit))) p r ≡ readAnyLine TheConstraint readLine (storedFile (now (file .entry)) (storeOf (now (variables .entry)) (now (heads .entry)) (now (bodies .entry))) p) (lineAt (take stop (now (file .entry))) at next)) × StoreSized (storeOf (now (variables .exit)) (now (heads .exit)) (now (bodies .exit))) × (length (now (guesses .exit)) ≡ byteValues) × HasRoom p r × (HeadsInUseFit (now (file .entry)) (storeOf (now (variables .entry)) (now (heads .entry)) (now (bodies .entry))) p → StepHeadsFit (now (file .entry)) (storeOf (now (variables .exit)) (now (heads .exit)) (now (bodies .exit))) (advanced p r)) ⌝ }
+    requires { ⌜ (at ≤ stop) × (stop ≤ length (now file)) × (length (now file) ≤ maxFileBytes) × InTables p × StoreSized (storeOf (now variables) (now heads) (now bodies)) × Searchable (now file) (now variables) (p .variables) × (every isAllowed (drop at (take stop (now file))) ≡ true) ⌝ }
+    ensures { λ r. ⌜ ((next : ℕ) → addedResult (now (file .entry)) (storeOf (now (variables .exit)) (now (heads .exit)) (now (bodies .exit))) p r ≡ readAnyLine TheConstraint readLine (storedFile (now (file .entry)) (storeOf (now (variables .entry)) (now (heads .entry)) (now (bodies .entry))) p) (lineAt (take stop (now (file .entry))) at next)) × StoreSized (storeOf (now (variables .exit)) (now (heads .exit)) (now (bodies .exit))) × StepSearchable (now (file .entry)) (now (variables .exit)) (advanced p r) × HasRoom p r × (HeadsInUseFit (now (file .entry)) (storeOf (now (variables .entry)) (now (heads .entry)) (now (bodies .entry))) p → StepHeadsFit (now (file .entry)) (storeOf (now (variables .exit)) (now (heads .exit)) (now (bodies .exit))) (advanced p r)) ⌝ }
 {
     if all(&file[..stop], at, Class::Space) {
         return Added::NoPart;
     }
-    read_line(file, stop, at, variables, guesses, heads, bodies, p)
+    read_line(file, stop, at, variables, heads, bodies, p)
 }
 
 // Nothing read yet.
@@ -201,12 +186,11 @@ fn advance(p: Progress, added: Added) -> Step
 fn read_lines(
     file: &[u8],
     variables: &mut [u64; Edition::VARIABLES],
-    guesses: &mut [usize; BYTES],
     heads: &mut [u8; TABLE_HEADS],
     bodies: &mut [u64; TABLE_BODIES],
 ) -> Step
-    requires { ⌜ (length (now file) ≤ maxFileBytes) × StoreSized (storeOf (now variables) (now heads) (now bodies)) × (length (now guesses) ≡ byteValues) ⌝ }
-    ensures { λ r. ⌜ (stepResult (now (file .entry)) (storeOf (now (variables .exit)) (now (heads .exit)) (now (bodies .exit))) r ≡ readLines TheConstraint readLine emptyFile (textLines (now (file .entry)))) × StoreSized (storeOf (now (variables .exit)) (now (heads .exit)) (now (bodies .exit))) × (length (now (guesses .exit)) ≡ byteValues) × StepInTables r × StepHeadsFit (now (file .entry)) (storeOf (now (variables .exit)) (now (heads .exit)) (now (bodies .exit))) r ⌝ }
+    requires { ⌜ (length (now file) ≤ maxFileBytes) × StoreSized (storeOf (now variables) (now heads) (now bodies)) × Searchable (now file) (now variables) 0 ⌝ }
+    ensures { λ r. ⌜ (stepResult (now (file .entry)) (storeOf (now (variables .exit)) (now (heads .exit)) (now (bodies .exit))) r ≡ readLines TheConstraint readLine emptyFile (textLines (now (file .entry)))) × StoreSized (storeOf (now (variables .exit)) (now (heads .exit)) (now (bodies .exit))) × StepSearchable (now (file .entry)) (now (variables .exit)) r × StepInTables r × StepHeadsFit (now (file .entry)) (storeOf (now (variables .exit)) (now (heads .exit)) (now (bodies .exit))) r ⌝ }
 {
     let mut p = nothing();
     let mut i = 0;
@@ -216,7 +200,7 @@ fn read_lines(
                 return Step::Stop(refusal(Refusal::BYTE_NOT_ALLOWED, bad));
             }
             LineFound::Ends(stop, next) => {
-                let added = read_any_line(file, stop, i, variables, guesses, heads, bodies, p);
+                let added = read_any_line(file, stop, i, variables, heads, bodies, p);
                 match advance(p, added) {
                     Step::Stop(r) => {
                         return Step::Stop(r);
@@ -232,21 +216,20 @@ fn read_lines(
     Step::Next(p)
 }
 
-// Reads a file into tables.
+// Reads a file into tables. The table of variables holds none yet: its words are 0.
 pub fn read(
     file: &[u8],
     variables: &mut [u64; Edition::VARIABLES],
     heads: &mut [u8; TABLE_HEADS],
     bodies: &mut [u64; TABLE_BODIES],
 ) -> Step
-    requires { ⌜ StoreSized (storeOf (now variables) (now heads) (now bodies)) ⌝ }
-    ensures { λ r. ⌜ (stepResult (now (file .entry)) (storeOf (now (variables .exit)) (now (heads .exit)) (now (bodies .exit))) r ≡ readFile (now (file .entry))) × StoreSized (storeOf (now (variables .exit)) (now (heads .exit)) (now (bodies .exit))) × StepInTables r × StepHeadsFit (now (file .entry)) (storeOf (now (variables .exit)) (now (heads .exit)) (now (bodies .exit))) r ⌝ }
+    requires { ⌜ StoreSized (storeOf (now variables) (now heads) (now bodies)) × Searchable (now file) (now variables) 0 ⌝ }
+    ensures { λ r. ⌜ (stepResult (now (file .entry)) (storeOf (now (variables .exit)) (now (heads .exit)) (now (bodies .exit))) r ≡ readFile (now (file .entry))) × StoreSized (storeOf (now (variables .exit)) (now (heads .exit)) (now (bodies .exit))) × StepInTables r × StepHeadsFit (now (file .entry)) (storeOf (now (variables .exit)) (now (heads .exit)) (now (bodies .exit))) r × StepSearchable (now (file .entry)) (now (variables .exit)) r ⌝ }
 {
     if Edition::FILE_BYTES < file.len() {
         return Step::Stop(refusal(Refusal::FILE_TOO_LONG, Edition::FILE_BYTES));
     }
-    let mut guesses = [0usize; BYTES];
-    match read_lines(file, variables, &mut guesses, heads, bodies) {
+    match read_lines(file, variables, heads, bodies) {
         Step::Stop(r) => Step::Stop(r),
         Step::Next(p) => {
             let version = p.version;

@@ -26,7 +26,6 @@ use Rattle.constraint.specs.declared.Form.{Form}
 use Rattle.constraint.specs.declared.Form.the-variants.{WithOutput, Predicate}
 use Rattle.constraint.specs.declared.Line.{Line}
 use Rattle.constraint.specs.File.{Variable, File, editionOf}
-use Rattle.constraint.specs.Sound.{Distinct}
 use Rattle.constraint.specs.Read.{nextOperand, noOperands, inFront, readOperands, readOperation, nextOutput, readStatement}
 use Rattle.spelling.specs.Operators.{operatorNamed}
 use Rattle.store.specs.Tables.{lineBodies, tableHeads, tableBodies, operandOf, lineIn, withHead, withBody, withOperand, LinesKept, HeadsFit}
@@ -188,7 +187,7 @@ pub record ReadUpTo (line : List ℕ) (xs : List Variable) (at m : ℕ) (p₀ : 
   pub kept : LinesKept heads₀ bodies₀ heads bodies m
   pub fits : HeadsFit xs heads bodies m
   pub blank : BlankUpTo slot (lineIn heads bodies m)
-  pub left : (f : File) (next : ℕ) → f .variables ≡ xs → Distinct (f .variables) → leftToRead f (lineAt line at next) slot (p .last) (p .operator) (lineIn heads bodies m) (tokensFrom true (p .at) (drop (p .at) line)) ≡ leftToRead f (lineAt line at next) slot₀ (p₀ .last) (p₀ .operator) (lineIn heads₀ bodies₀ m) (tokensFrom true (p₀ .at) (drop (p₀ .at) line))
+  pub left : (f : File) (next : ℕ) → f .variables ≡ xs → leftToRead f (lineAt line at next) slot (p .last) (p .operator) (lineIn heads bodies m) (tokensFrom true (p .at) (drop (p .at) line)) ≡ leftToRead f (lineAt line at next) slot₀ (p₀ .last) (p₀ .operator) (lineIn heads₀ bodies₀ m) (tokensFrom true (p₀ .at) (drop (p₀ .at) line))
 
 pub first-most : (form : Form) → firstSlot form ≤ 1
 first-most WithOutput = omega arith

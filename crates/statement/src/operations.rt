@@ -22,7 +22,6 @@ use store::lines::clear_operands;
 use store::lines::put_body;
 use store::lines::put_head;
 use store::lines::put_operator;
-use store::names::BYTES;
 use text::NextToken;
 use text::scan::is_letter;
 use text::scan::next_token;
@@ -36,30 +35,29 @@ ghost use Rattle.edition.specs.Edition.{maxVariables, maxLines};
 ghost use Rattle.text.specs.Lines.{tokensFrom};
 ghost use Rattle.text.specs.Scan.{lineAt};
 ghost use Rattle.constraint.specs.File.{Variable, File};
-ghost use Rattle.constraint.specs.Sound.{Distinct};
 ghost use Rattle.constraint.specs.Read.{noOperands, nextOperand, readOperation, readStatement};
+ghost use Rattle.store.specs.Names.{Searchable};
 ghost use Rattle.store.specs.Tables.{tableHeads, tableBodies, variablesIn, lineIn, LinesKept, HeadsFit};
 ghost use Rattle.operand.specs.Internal.{takenResult, TakenWithin, TakenFits};
 ghost use Rattle.statement.specs.Internal.{finished, lineResult, leftToRead, operandNext, InLine, partResult, PartInLine, BlankUpTo, firstSlot, LineFits};
 
 // The operand of the next token of the line from `i` on.
-fn take_operand<'a>(
+fn take_operand(
     file: &[u8],
-    variables: &'a [u64; Edition::VARIABLES],
-    guesses: &'a [usize; BYTES],
+    variables: &[u64; Edition::VARIABLES],
     n: usize,
     line: &[u8],
     i: usize,
 ) -> Taken
-    requires { ⌜ (i ≤ length (now line)) × (n ≤ maxVariables) ⌝ }
-    ensures { λ r. ⌜ ((start next : ℕ) → start ≤ length (now (line .entry)) → Distinct (variablesIn (now (file .entry)) (now (variables .entry)) n) → takenResult (now (line .entry)) r ≡ nextOperand (variablesIn (now (file .entry)) (now (variables .entry)) n) (lineAt (now (line .entry)) start next) (tokensFrom true i (drop i (now (line .entry))))) × TakenWithin (now (line .entry)) r × TakenFits (variablesIn (now (file .entry)) (now (variables .entry)) n) r ⌝ }
+    requires { ⌜ (i ≤ length (now line)) × (n ≤ maxVariables) × Searchable (now file) (now variables) n ⌝ }
+    ensures { λ r. ⌜ ((start next : ℕ) → start ≤ length (now (line .entry)) → takenResult (now (line .entry)) r ≡ nextOperand (variablesIn (now (file .entry)) (now (variables .entry)) n) (lineAt (now (line .entry)) start next) (tokensFrom true i (drop i (now (line .entry))))) × TakenWithin (now (line .entry)) r × TakenFits (variablesIn (now (file .entry)) (now (variables .entry)) n) r ⌝ }
 {
     let start = spaces(line, i);
     if start == line.len() {
         return Taken::Halt(refusal(Refusal::TOKEN_COUNT, start));
     }
     if is_letter(line[start]) {
-        named(file, variables, guesses, n, line, start)
+        named(file, variables, n, line, start)
     } else {
         constant(line, start)
     }
@@ -109,10 +107,9 @@ fn before_operand(
 }
 
 // The part of a line that ends with the operand of a slot, put into line m of the table.
-fn place_part<'a>(
+fn place_part(
     file: &[u8],
-    variables: &'a [u64; Edition::VARIABLES],
-    guesses: &'a [usize; BYTES],
+    variables: &[u64; Edition::VARIABLES],
     n: usize,
     line: &[u8],
     p: Reached,
@@ -121,12 +118,12 @@ fn place_part<'a>(
     bodies: &mut [u64; TABLE_BODIES],
     m: usize,
 ) -> PartRead
-    requires { ⌜ (n ≤ maxVariables) × InLine (now line) p × (slot ≤ p .last) × (length (now heads) ≡ tableHeads) × (length (now bodies) ≡ tableBodies) × (m < maxLines) ⌝ }
-    ensures { λ r. ⌜ ((f : File) (start next : ℕ) → f .variables ≡ variablesIn (now (file .entry)) (now (variables .entry)) n → start ≤ length (now (line .entry)) → Distinct (f .variables) → BlankUpTo slot (lineIn (now (heads .entry)) (now (bodies .entry)) m) → partResult (now (line .entry)) (λ last place ts. leftToRead f (lineAt (now (line .entry)) start next) (slot + 1) last place (lineIn (now (heads .exit)) (now (bodies .exit)) m) ts) r ≡ leftToRead f (lineAt (now (line .entry)) start next) slot (p .last) (p .operator) (lineIn (now (heads .entry)) (now (bodies .entry)) m) (tokensFrom true (p .at) (drop (p .at) (now (line .entry))))) × LinesKept (now (heads .entry)) (now (bodies .entry)) (now (heads .exit)) (now (bodies .exit)) m × (HeadsFit (variablesIn (now (file .entry)) (now (variables .entry)) n) (now (heads .entry)) (now (bodies .entry)) m → HeadsFit (variablesIn (now (file .entry)) (now (variables .entry)) n) (now (heads .exit)) (now (bodies .exit)) m) × (BlankUpTo slot (lineIn (now (heads .entry)) (now (bodies .entry)) m) → BlankUpTo (slot + 1) (lineIn (now (heads .exit)) (now (bodies .exit)) m)) × (length (now (heads .exit)) ≡ tableHeads) × (length (now (bodies .exit)) ≡ tableBodies) × PartInLine (now (line .entry)) slot r ⌝ }
+    requires { ⌜ (n ≤ maxVariables) × Searchable (now file) (now variables) n × InLine (now line) p × (slot ≤ p .last) × (length (now heads) ≡ tableHeads) × (length (now bodies) ≡ tableBodies) × (m < maxLines) ⌝ }
+    ensures { λ r. ⌜ ((f : File) (start next : ℕ) → f .variables ≡ variablesIn (now (file .entry)) (now (variables .entry)) n → start ≤ length (now (line .entry)) → BlankUpTo slot (lineIn (now (heads .entry)) (now (bodies .entry)) m) → partResult (now (line .entry)) (λ last place ts. leftToRead f (lineAt (now (line .entry)) start next) (slot + 1) last place (lineIn (now (heads .exit)) (now (bodies .exit)) m) ts) r ≡ leftToRead f (lineAt (now (line .entry)) start next) slot (p .last) (p .operator) (lineIn (now (heads .entry)) (now (bodies .entry)) m) (tokensFrom true (p .at) (drop (p .at) (now (line .entry))))) × LinesKept (now (heads .entry)) (now (bodies .entry)) (now (heads .exit)) (now (bodies .exit)) m × (HeadsFit (variablesIn (now (file .entry)) (now (variables .entry)) n) (now (heads .entry)) (now (bodies .entry)) m → HeadsFit (variablesIn (now (file .entry)) (now (variables .entry)) n) (now (heads .exit)) (now (bodies .exit)) m) × (BlankUpTo slot (lineIn (now (heads .entry)) (now (bodies .entry)) m) → BlankUpTo (slot + 1) (lineIn (now (heads .exit)) (now (bodies .exit)) m)) × (length (now (heads .exit)) ≡ tableHeads) × (length (now (bodies .exit)) ≡ tableBodies) × PartInLine (now (line .entry)) slot r ⌝ }
 {
     match before_operand(line, p, slot, heads, m) {
         PartRead::NotRead(r) => PartRead::NotRead(r),
-        PartRead::UpTo(q) => match take_operand(file, variables, guesses, n, line, q.at) {
+        PartRead::UpTo(q) => match take_operand(file, variables, n, line, q.at) {
             Taken::Halt(r) => PartRead::NotRead(r),
             Taken::Got(head, body, stop) => {
                 put_head(heads, m, slot, head);
@@ -174,10 +171,9 @@ fn first_slot(form: Form) -> usize
 }
 
 // The `c` or `p` line from `at` to the end, put into line m of the table, behind those that are held.
-pub fn statement_line<'a>(
+pub fn statement_line(
     file: &[u8],
-    variables: &'a [u64; Edition::VARIABLES],
-    guesses: &'a [usize; BYTES],
+    variables: &[u64; Edition::VARIABLES],
     n: usize,
     line: &[u8],
     at: usize,
@@ -186,8 +182,8 @@ pub fn statement_line<'a>(
     bodies: &mut [u64; TABLE_BODIES],
     m: usize,
 ) -> LineRead
-    requires { ⌜ (at < length (now line)) × (n ≤ maxVariables) × (length (now heads) ≡ tableHeads) × (length (now bodies) ≡ tableBodies) ⌝ }
-    ensures { λ r. ⌜ ((f : File) (next : ℕ) → f .variables ≡ variablesIn (now (file .entry)) (now (variables .entry)) n → length (f .lines) ≡ m → Distinct (f .variables) → lineResult (lineIn (now (heads .exit)) (now (bodies .exit)) m) r ≡ readStatement form f (lineAt (now (line .entry)) at next)) × LinesKept (now (heads .entry)) (now (bodies .entry)) (now (heads .exit)) (now (bodies .exit)) m × LineFits (variablesIn (now (file .entry)) (now (variables .entry)) n) (now (heads .exit)) (now (bodies .exit)) m r × (length (now (heads .exit)) ≡ tableHeads) × (length (now (bodies .exit)) ≡ tableBodies) ⌝ }
+    requires { ⌜ (at < length (now line)) × (n ≤ maxVariables) × Searchable (now file) (now variables) n × (length (now heads) ≡ tableHeads) × (length (now bodies) ≡ tableBodies) ⌝ }
+    ensures { λ r. ⌜ ((f : File) (next : ℕ) → f .variables ≡ variablesIn (now (file .entry)) (now (variables .entry)) n → length (f .lines) ≡ m → lineResult (lineIn (now (heads .exit)) (now (bodies .exit)) m) r ≡ readStatement form f (lineAt (now (line .entry)) at next)) × LinesKept (now (heads .entry)) (now (bodies .entry)) (now (heads .exit)) (now (bodies .exit)) m × LineFits (variablesIn (now (file .entry)) (now (variables .entry)) n) (now (heads .exit)) (now (bodies .exit)) m r × (length (now (heads .exit)) ≡ tableHeads) × (length (now (bodies .exit)) ≡ tableBodies) ⌝ }
 {
     if Edition::LINES <= m {
         return LineRead::NoLine(refusal(Refusal::OVER_LIMIT, at));
@@ -200,7 +196,7 @@ pub fn statement_line<'a>(
     };
     let mut slot = first_slot(form);
     while slot <= p.last {
-        match place_part(file, variables, guesses, n, line, p, slot, heads, bodies, m) {
+        match place_part(file, variables, n, line, p, slot, heads, bodies, m) {
             PartRead::NotRead(r) => {
                 return LineRead::NoLine(r);
             }

@@ -3,3 +3,6 @@ pub mod TableLaws
 pub mod LineTableLaws
 pub mod VariableTableLaws
 pub mod LookupLaws
+pub mod HashLaws
+pub mod ChainLaws
+pub mod SearchLaws

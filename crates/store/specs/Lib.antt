@@ -1,2 +1,4 @@
 pub mod Tables
+pub mod Hash
+pub mod Names
 pub mod Progress

@@ -17,6 +17,7 @@ use Rattle.constraint.specs.File.{File}
 use Rattle.store.specs.declared.Added.{Added}
 use Rattle.store.specs.declared.Added.the-variants.{NoPart, VersionPart, ExpectationPart, VariablesPart, LinePart, Fault}
 use Rattle.store.specs.Tables.{variablesIn, linesIn, AllHeadsFit, Store}
+use Rattle.store.specs.Names.{Searchable}
 
 -- the version and the expectation, if they were read
 abbrev pub versionRead : Version → Option Edition
@@ -114,3 +115,8 @@ StepInTables (Stop r) = Unit {0}
 abbrev pub StepHeadsFit : List ℕ → Store → Step → Type 0
 StepHeadsFit bytes t (Next p) = HeadsInUseFit bytes t p
 StepHeadsFit bytes t (Stop r) = Unit {0}
+
+-- the variables read can be found by their names
+abbrev pub StepSearchable : List ℕ → List ℕ → Step → Type 0
+StepSearchable bytes table (Next p) = Searchable bytes table (p .variables)
+StepSearchable bytes table (Stop r) = Unit {0}

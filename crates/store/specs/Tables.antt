@@ -22,23 +22,30 @@ unfoldable pub tabulate : {A : Type 0} → (ℕ → A) → ℕ → List A
 tabulate f zero = []
 tabulate f (suc n) = tabulate f n ++ (f n ∷ [])
 
--- VARIABLES: a word to each, made of where its name starts in the file, how long it is, and the width
+-- VARIABLES: a word to each, made of where its name starts in the file, how long it is, the width, and two entries by which names are found
 
 -- above every width: what a variable's head has beyond its width
 abbrev pub variableMark : ℕ
 variableMark = 128
 
--- the units in which a word counts the length and the width
+-- the units in which a word counts the length, the width and the two entries
 abbrev pub lengthUnit : ℕ
 lengthUnit = 65536
 
 abbrev pub widthUnit : ℕ
 widthUnit = 16777216
 
--- a word, and what it is made of; a width read out of any word is below the mark
-unfoldable pub variableWord : ℕ → ℕ → ℕ → ℕ
-variableWord start len width = start + len * lengthUnit + width * widthUnit
+abbrev pub nextUnit : ℕ
+nextUnit = 4294967296
 
+abbrev pub firstUnit : ℕ
+firstUnit = 281474976710656
+
+-- above every entry
+abbrev pub entryBound : ℕ
+entryBound = 65536
+
+-- what a word is made of; a width read out of any word is below the mark
 unfoldable pub nameStart : ℕ → ℕ
 nameStart word = word % lengthUnit
 
@@ -47,6 +54,19 @@ nameLength word = word % widthUnit / lengthUnit
 
 unfoldable pub wordWidth : ℕ → ℕ
 wordWidth word = word / widthUnit % variableMark
+
+unfoldable pub nextEntry : ℕ → ℕ
+nextEntry word = word / nextUnit % entryBound
+
+unfoldable pub firstEntry : ℕ → ℕ
+firstEntry word = word / firstUnit
+
+-- a word with another variable, and a word with another first entry
+unfoldable pub withWordOf : ℕ → ℕ → ℕ → ℕ → ℕ → ℕ
+withWordOf word start len width next = word / firstUnit * firstUnit + (start + len * lengthUnit + width * widthUnit + next * nextUnit)
+
+unfoldable pub withFirstEntry : ℕ → ℕ → ℕ
+withFirstEntry word entry = word % firstUnit + entry * firstUnit
 
 -- the variable of a word
 unfoldable pub variableOf : List ℕ → ℕ → Variable
@@ -63,10 +83,6 @@ variablesIn file table = tabulate (variableIn file table)
 abbrev pub place : Found → Option ℕ
 place (At i) = some i
 place Nowhere = none
-
--- the values of a byte: the guesses at names have an entry for each
-abbrev pub byteValues : ℕ
-byteValues = 256
 
 -- LINES, in two tables: of each line the operator's number and the heads of its output and its operands, and their bodies
 

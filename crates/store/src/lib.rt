@@ -2,9 +2,16 @@
 use edition::Edition;
 use refusal::Refusal;
 
+pub mod hashing;
 pub mod lines;
 pub mod names;
 pub mod variables;
+
+// A name: where its bytes stop, and their hash.
+pub struct Name {
+    pub stop: usize,
+    pub hash: u32,
+}
 
 // Where a name stands among the variables.
 pub enum Found {

@@ -1,75 +1,64 @@
-// The names of the variables: looking one up.
+// The names of the variables, in chains: adding one, and finding one.
+// A bucket's first entry is the variable added last whose name has that bucket, a variable's next entry the one before it there.
+// An entry is a variable's number plus 1, and 0 is none. Word i holds variable i and the first entry of bucket i.
 use super::Found;
+use super::hashing::bucket;
+use super::variables::first_entry;
 use super::variables::name_length;
 use super::variables::name_start;
+use super::variables::next_entry;
+use super::variables::with_first_entry;
+use super::variables::with_word_of;
 use edition::Edition;
-use text::compare::same_part;
+use text::compare::same_at;
 ghost use mathlib.Core.Path.{_≡_};
 ghost use Prim.Native.Nat.{_≤_, _<_};
 ghost use lib.ListN.{length, drop};
-ghost use Rattle.edition.specs.Edition.{maxVariables};
+ghost use Rattle.edition.specs.Edition.{maxVariables, maxNameBytes, maxWidth};
 ghost use Rattle.constraint.specs.File.{variableNamed};
-ghost use Rattle.constraint.specs.Sound.{Distinct};
-ghost use Rattle.store.specs.Tables.{byteValues, variablesIn, place};
+ghost use Rattle.store.specs.Hash.{hashOf, bucketOf};
+ghost use Rattle.store.specs.Names.{Searchable, withName};
+ghost use Rattle.store.specs.Tables.{lengthUnit, variablesIn, place};
 
-// The values of a byte.
-pub const BYTES: usize = 256;
+// Puts variable n into the table: the name of `len` bytes at `start`, which have that hash, and the width.
+pub fn add(
+    variables: &mut [u64; Edition::VARIABLES],
+    n: usize,
+    start: usize,
+    len: usize,
+    width: u64,
+    hash: u32,
+)
+    requires { ⌜ (length (now variables) ≡ maxVariables) × (n < maxVariables) × (start < lengthUnit) × (len ≤ maxNameBytes) × (width ≤ maxWidth) ⌝ }
+    ensures { λ _. ⌜ now (variables .exit) ≡ withName (now (variables .entry)) n start len width (bucketOf hash) ⌝ }
+{
+    let b = bucket(hash);
+    let first = first_entry(variables[b]);
+    variables[n] = with_word_of(variables[n], start, len, width, first);
+    variables[b] = with_first_entry(variables[b], n + 1);
+}
 
-// The first of the n variables whose name is the bytes from `at` to the end of the text.
-pub fn lookup(
+// Which of the n variables has the name that stands from `at` to the end of the text and has that hash.
+pub fn find(
     file: &[u8],
     variables: &[u64; Edition::VARIABLES],
     n: usize,
     text: &[u8],
     at: usize,
+    hash: u32,
 ) -> Found
-    requires { ⌜ (at ≤ length (now text)) × (n ≤ maxVariables) ⌝ }
+    requires { ⌜ (at ≤ length (now text)) × (n ≤ maxVariables) × Searchable (now file) (now variables) n × (hash ≡ hashOf (drop at (now text))) ⌝ }
     ensures { λ r. ⌜ place r ≡ variableNamed (drop at (now (text .entry))) (variablesIn (now (file .entry)) (now (variables .entry)) n) ⌝ }
 {
-    let mut i = 0;
-    while i < n {
-        let word = variables[i];
-        if same_part(file, name_start(word), name_length(word), text, at) {
-            return Found::At(i);
+    let b = bucket(hash);
+    let mut entry = first_entry(variables[b]);
+    while 0 < entry {
+        let v = entry - 1;
+        let word = variables[v];
+        if same_at(file, name_start(word), name_length(word), text, at) {
+            return Found::At(v);
         }
-        i += 1;
+        entry = next_entry(word);
     }
     Found::Nowhere
-}
-
-// The variable whose name is the bytes from `at` to the end of the text, where no two have the same name.
-// First comes a guess: the variable declared last among those whose names end in the same byte.
-pub fn find<'a>(
-    file: &[u8],
-    variables: &'a [u64; Edition::VARIABLES],
-    guesses: &'a [usize; BYTES],
-    n: usize,
-    text: &[u8],
-    at: usize,
-) -> Found
-    requires { ⌜ (at < length (now text)) × (n ≤ maxVariables) ⌝ }
-    ensures { λ r. ⌜ (Distinct (variablesIn (now (file .entry)) (now (variables .entry)) n) → place r ≡ variableNamed (drop at (now (text .entry))) (variablesIn (now (file .entry)) (now (variables .entry)) n)) ⌝ }
-{
-    let end = text.len() - 1;
-    let key = text[end] as usize;
-    let guess = guesses[key];
-    if guess < n {
-        let word = variables[guess];
-        if same_part(file, name_start(word), name_length(word), text, at) {
-            return Found::At(guess);
-        }
-    }
-    lookup(file, variables, n, text, at)
-}
-
-// Names that end as the one that stops at `end` are guessed to be variable k's.
-pub fn remember(guesses: &mut [usize; BYTES], file: &[u8], end: usize, k: usize)
-    requires { ⌜ (length (now guesses) ≡ byteValues) × (end ≤ length (now file)) ⌝ }
-    ensures { λ _. ⌜ length (now (guesses .exit)) ≡ byteValues ⌝ }
-{
-    if 0 < end {
-        let last = end - 1;
-        let key = file[last] as usize;
-        guesses[key] = k;
-    }
 }

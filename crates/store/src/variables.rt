@@ -6,18 +6,48 @@ ghost use mathlib.Core.List.{List};
 ghost use Prim.Native.Nat.{ℕ, _≤_, _<_};
 ghost use Rattle.edition.specs.Edition.{maxVariables, maxNameBytes, maxWidth};
 ghost use Rattle.constraint.specs.File.{widthAt};
-ghost use Rattle.store.specs.Tables.{lengthUnit, variableWord, nameStart, nameLength, wordWidth, variablesIn};
+ghost use Rattle.store.specs.Tables.{lengthUnit, entryBound, nameStart, nameLength, wordWidth, nextEntry, firstEntry, withWordOf, withFirstEntry, variablesIn};
 
-// The units in which a word counts the length of the name and the width, beside where the name starts.
+// The units in which a word counts the length of the name, the width and its two entries, beside where the name starts.
 const LENGTH_UNIT: u64 = 65536;
 
 const WIDTH_UNIT: u64 = 16777216;
 
-pub fn variable_word(start: usize, len: usize, width: u64) -> u64
-    requires { ⌜ (start < lengthUnit) × (len ≤ maxNameBytes) × (width ≤ maxWidth) ⌝ }
-    ensures { λ r. ⌜ r ≡ variableWord start len width ⌝ }
+const NEXT_UNIT: u64 = 4294967296;
+
+const FIRST_UNIT: u64 = 281474976710656;
+
+// Above every entry.
+const ENTRY_BOUND: u64 = 65536;
+
+// A word with another variable. The first entry, of the bucket with the word's number, stays.
+pub(crate) fn with_word_of(word: u64, start: usize, len: usize, width: u64, next: usize) -> u64
+    requires { ⌜ (start < lengthUnit) × (len ≤ maxNameBytes) × (width ≤ maxWidth) × (next < entryBound) ⌝ }
+    ensures { λ r. ⌜ r ≡ withWordOf word start len width next ⌝ }
 {
-    start as u64 + len as u64 * LENGTH_UNIT + width * WIDTH_UNIT
+    let name = start as u64 + len as u64 * LENGTH_UNIT;
+    let entry = next as u64 * NEXT_UNIT;
+    word / FIRST_UNIT * FIRST_UNIT + (name + width * WIDTH_UNIT + entry)
+}
+
+// A word with another first entry. The variable stays.
+pub(crate) fn with_first_entry(word: u64, entry: usize) -> u64
+    requires { ⌜ entry < entryBound ⌝ }
+    ensures { λ r. ⌜ r ≡ withFirstEntry word entry ⌝ }
+{
+    word % FIRST_UNIT + entry as u64 * FIRST_UNIT
+}
+
+pub(crate) fn next_entry(word: u64) -> usize
+    ensures { λ r. ⌜ r ≡ nextEntry word ⌝ }
+{
+    (word / NEXT_UNIT % ENTRY_BOUND) as usize
+}
+
+pub(crate) fn first_entry(word: u64) -> usize
+    ensures { λ r. ⌜ (r ≡ firstEntry word) × (r < entryBound) ⌝ }
+{
+    (word / FIRST_UNIT) as usize
 }
 
 pub fn name_start(word: u64) -> usize

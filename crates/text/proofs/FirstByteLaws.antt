@@ -1,5 +1,5 @@
 -- A token by its first byte: with a letter it is a name or misspelt, without one it is no name. Assumes nothing.
-use Prim.Native.Nat.{ℕ, _+_, _≤_, _<_}
+use Prim.Native.Nat.{ℕ, suc, _+_, _≤_, _<_}
 use mathlib.Core.Path.{_≡_, ap, _∙_}
 use mathlib.Core.Bool.{true, false, not}
 use mathlib.Core.List.{List}
@@ -8,7 +8,7 @@ use native.Mathlib.Omega.{arith}
 use lib.ListN.{length, getD, take, drop, drop-of-length-le}
 use lib.Seq.{drop-cons, getD-take, length-take-le}
 use Rattle.refusal.specs.Lists.{every}
-use Rattle.refusal.proofs.BoolLaws.{and-false}
+use Rattle.refusal.proofs.BoolLaws.{and-true, and-one, fails}
 use Rattle.refusal.proofs.ResultLaws.{never}
 use Rattle.text.specs.Bytes.{isLetter, isNameByte, isSpace}
 use Rattle.text.specs.Spelling.{isName}
@@ -16,14 +16,14 @@ use Rattle.text.specs.declared.Class.the-variants.{Solid, Digit, NameByt
 use Rattle.text.specs.Scan.{isOf, past, endsToken}
 use Rattle.text.proofs.RunLaws.{past-more, past-ge, past-le, scan-bounds, scan-not, strict-every, strict-same, strict-within, strict-before}
 use Rattle.text.proofs.NameLaws.{name-at}
-use Rattle.text.proofs.SeenLaws.{digit-seen, byte-seen, seen-solid}
+use Rattle.text.proofs.SeenLaws.{digit-seen, byte-seen, name-bytes, seen-solid}
 
 -- digits and the bytes of a name are not white space
 pub digit-solid : (b : ℕ) → isOf Digit b ≡ true → isOf Solid b ≡ true
 unfolding isOf
 digit-solid b e = seen-solid b (digit-seen b e)
 
-name-solid : (b : ℕ) → isOf NameByte b ≡ true → isOf Solid b ≡ true
+pub name-solid : (b : ℕ) → isOf NameByte b ≡ true → isOf Solid b ≡ true
 unfolding isOf
 name-solid b e = seen-solid b (byte-seen b e)
 
@@ -44,38 +44,46 @@ module _ (f : List ℕ) (i : ℕ) where
     | no h ↦ (let k : length f ≤ i = omega arith in never (cc (rw (drop-of-length-le f k) at e)))
   ]
 
+-- bytes of a name are a name where the first is a letter
+pub bytes-name : (f : List ℕ) (at : ℕ) → at < length f → every (isOf NameByte) (drop at f) ≡ true → isName (drop at f) ≡ isLetter (getD f at 0)
+unfolding isName every isOf
+bytes-name f at h e = rw (drop-cons f at 0 h) (let q = and-true (isNameByte (getD f at 0)) (every isNameByte (drop (suc at) f)) (rw (drop-cons f at 0 h) at e) in rw (q .1, and-one))
+
+-- what has another byte is no name
+pub not-bytes : (s : List ℕ) → every isNameByte s ≡ false → isName s ≡ false
+not-bytes s e = fails (isName s) (λ t. never (cc (e, name-bytes s t)))
+
 -- a token that starts at `at`
 module _ (line : List ℕ) (at : ℕ) (h : at < length line) where
   pub letter-starts : isLetter (getD line at 0) ≡ true → at < past (isOf Solid) line at
   letter-starts a = omega (arith, past-more (isOf Solid) line at h (letter-solid (getD line at 0) a), past-ge (isOf Solid) line (at + 1))
 
-  -- with a letter, before bytes of a name up to `stop`
-  module _ (a : isLetter (getD line at 0) ≡ true) (stop : ℕ) (hs : stop ≡ past (isOf NameByte) line (at + 1)) where
-    on : past (isOf Solid) line (at + 1) ≡ past (isOf Solid) line at
-    on = past-more (isOf Solid) line at h (letter-solid (getD line at 0) a)
+  -- with a letter, and bytes of a name reach to `stop`
+  module _ (a : isLetter (getD line at 0) ≡ true) (stop : ℕ) (hs : stop ≡ past (isOf NameByte) line at) where
+    begun : isOf NameByte (getD line at 0) ≡ true
+    unfolding isOf isNameByte
+    begun = rw a
 
     pub name-bounds : (at < stop) × (stop ≤ length line)
-    name-bounds = let b = scan-bounds (isOf NameByte) line (at + 1) stop (omega arith) hs in (omega arith, b .1)
+    name-bounds = (omega (arith, past-more (isOf NameByte) line at h begun, past-ge (isOf NameByte) line (at + 1)), scan-bounds (isOf NameByte) line at stop (omega arith) hs .1)
 
     pub name-stops : endsToken (drop stop line) ≡ true → stop ≡ past (isOf Solid) line at
-    name-stops e = strict-same (isOf NameByte) (isOf Solid) name-solid line (at + 1) stop (omega arith) hs (ends-solid line stop e) ∙ on
+    name-stops e = strict-same (isOf NameByte) (isOf Solid) name-solid line at stop (omega arith) hs (ends-solid line stop e)
 
     pub name-whole : isName (drop at (take stop line)) ≡ true
-    unfolding isOf
     name-whole =
         let b = name-bounds in
-        name-at (take stop line) at (omega (arith, length-take-le stop line (b .1)))
-        ∙ rw (getD-take stop line at 0 (b .0), a) (strict-every (isOf NameByte) (isOf Solid) name-solid line (at + 1) stop (omega arith) hs)
+        bytes-name (take stop line) at (omega (arith, length-take-le stop line (b .1))) (strict-every (isOf NameByte) (isOf Solid) name-solid line at stop (omega arith) hs)
+        ∙ rw (getD-take stop line at 0 (b .0)) a
 
     pub name-broken : endsToken (drop stop line) ≡ false → isName (drop at (take (past (isOf Solid) line at) line)) ≡ false
     unfolding isOf
     name-broken e =
         let g = goes-on line stop e in
-        let end = past (isOf Solid) line (at + 1) in
-        let l = length-take-le end line (past-le (isOf Solid) line (at + 1) (omega arith)) in
-        let lt : stop < end = strict-before (isOf NameByte) (isOf Solid) name-solid line (at + 1) stop (omega arith) hs (g .0) (g .1) in
-        let not-all : every (isOf NameByte) (drop (at + 1) (take end line)) ≡ false = scan-not (isOf NameByte) (take end line) (at + 1) stop (omega (arith, name-bounds, l)) (strict-within (isOf NameByte) (isOf Solid) name-solid line (at + 1) stop (omega arith) hs) (omega (arith, l)) in
-        rw (← on) (name-at (take end line) at (omega (arith, name-bounds, l)) ∙ rw (not-all, and-false))
+        let end = past (isOf Solid) line at in
+        let l = length-take-le end line (past-le (isOf Solid) line at (omega arith)) in
+        let lt : stop < end = strict-before (isOf NameByte) (isOf Solid) name-solid line at stop (omega arith) hs (g .0) (g .1) in
+        not-bytes (drop at (take end line)) (scan-not (isOf NameByte) (take end line) at stop (omega (arith, name-bounds, l)) (strict-within (isOf NameByte) (isOf Solid) name-solid line at stop (omega arith) hs) (omega (arith, l)))
 
   -- without a letter
   pub no-name : isLetter (getD line at 0) ≡ false → (stop : ℕ) → at < stop → stop ≤ length line → isName (drop at (take stop line)) ≡ false

@@ -9,8 +9,10 @@ pub mod LineLaws
 pub mod TokenLaws
 pub mod NumberLaws
 pub mod NameLaws
+pub mod CompareLaws
 pub mod AppendLaws
 pub mod FoundLineLaws
 pub mod ReadingLaws
 pub mod TypeLaws
+pub mod PartLaws
 pub mod FirstByteLaws

@@ -68,7 +68,7 @@ module _ (f t : List ℕ) (start len at : ℕ) where
   same-short k h = same-unlike (take len (drop start f)) (drop at t) (λ e. h (omega (arith, simp (length-take, length-drop) at e)))
 
   module _ (i : ℕ) (h : i < len) (k : start + i < length f) (l : at + i < length t) where
-    from-step : sameFrom f t start len at i ≡ (eqb (getD f (start + i) 0) (getD t (at + i) 0) && sameFrom f t start len at (i + 1))
+    pub from-step : sameFrom f t start len at i ≡ (eqb (getD f (start + i) 0) (getD t (at + i) 0) && sameFrom f t start len at (i + 1))
     unfolding sameFrom same
     from-step =
         let e : len - i ≡ suc (len - (i + 1)) = omega arith in
@@ -85,14 +85,6 @@ module _ (f t : List ℕ) (start len at : ℕ) where
   pub from-end : (i : ℕ) → len ≤ i → length t ≤ at + i → sameFrom f t start len at i ≡ true
   unfolding sameFrom same
   from-end i h l = let e : len - i ≡ 0 = omega arith in rw (e, drop-of-length-le t l)
-
--- a part of f that reaches past its end
-module _ (f : List ℕ) (start len : ℕ) where
-  pub part-outside : length f < start → take len (drop start f) ≡ []
-  part-outside h = let k : length f ≤ start = omega arith in rw (drop-of-length-le f k, take-nil)
-
-  pub part-short : length f - start < len → take len (drop start f) ≡ take (length f - start) (drop start f)
-  part-short h = take-all len (drop start f) (omega (arith, length-drop start f)) ∙ sym (take-all (length f - start) (drop start f) (omega (arith, length-drop start f)))
 
 -- texts that are the same bytes are equal, and others are not the same
 pub same-true : (s t : List ℕ) → same s t ≡ true → s ≡ t

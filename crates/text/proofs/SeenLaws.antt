@@ -59,7 +59,7 @@ pub byte-seen : (b : ℕ) → isNameByte b ≡ true → isSeen b ≡ true
 unfolding isSeen
 byte-seen b e = let q = name-byte b e in rw (le-leb 33 b (q .0), le-leb b 126 (q .1))
 
-name-bytes : (s : List ℕ) → isName s ≡ true → every isNameByte s ≡ true
+pub name-bytes : (s : List ℕ) → isName s ≡ true → every isNameByte s ≡ true
 unfolding isName every isNameByte
 name-bytes [] e = refl
 name-bytes (b ∷ s) e = let q = and-true (isLetter b) (every isNameByte s) e in rw (q .0) (q .1)

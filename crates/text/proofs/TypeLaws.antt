@@ -55,7 +55,7 @@ unfolding frontOf
 token-more b s e = rw e
 
 -- a token that ends, or goes on
-token-ends : (s : List ℕ) → endsToken s ≡ true → token s ≡ []
+pub token-ends : (s : List ℕ) → endsToken s ≡ true → token s ≡ []
 unfolding frontOf isOf endsToken
 token-ends [] e = refl
 token-ends (b ∷ s) e = rw e

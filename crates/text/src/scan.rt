@@ -36,7 +36,7 @@ pub fn is_letter(b: u8) -> bool
     ((b'a' <= b) & (b <= b'z')) | ((b'A' <= b) & (b <= b'Z'))
 }
 
-fn is_name_byte(b: u8) -> bool
+pub fn is_name_byte(b: u8) -> bool
     ensures { λ r. ⌜ r ≡ isNameByte b ⌝ }
 {
     is_letter(b) | is_digit(b) | (b == b'_')
@@ -77,7 +77,7 @@ pub fn scan(text: &[u8], at: usize, class: Class) -> usize
     i
 }
 
-// As `scan` does for white space, and for the bytes of a name: the test without a choice of class.
+// As `scan` does for white space: the test without a choice of class.
 pub fn spaces(text: &[u8], at: usize) -> usize
     requires { ⌜ at ≤ length (now text) ⌝ }
     ensures { λ r. ⌜ r ≡ past (isOf Space) (now (text .entry)) at ⌝ }
@@ -85,21 +85,6 @@ pub fn spaces(text: &[u8], at: usize) -> usize
     let mut i = at;
     while i < text.len() {
         if is_space(text[i]) {
-            i += 1;
-        } else {
-            return i;
-        }
-    }
-    i
-}
-
-pub fn name_bytes(text: &[u8], at: usize) -> usize
-    requires { ⌜ at ≤ length (now text) ⌝ }
-    ensures { λ r. ⌜ r ≡ past (isOf NameByte) (now (text .entry)) at ⌝ }
-{
-    let mut i = at;
-    while i < text.len() {
-        if is_name_byte(text[i]) {
             i += 1;
         } else {
             return i;
@@ -246,20 +231,15 @@ pub fn next_token(line: &[u8], at: usize) -> NextToken
     NextToken::OneMore(Span { start, stop })
 }
 
-// Whether a name stands from `at` to the end.
+// Whether bytes of a name, from `at` to the end, are a name: whether the first is a letter.
 pub fn is_name(text: &[u8], at: usize) -> bool
-    requires { ⌜ at ≤ length (now text) ⌝ }
+    requires { ⌜ (at ≤ length (now text)) × (every (isOf NameByte) (drop at (now text)) ≡ true) ⌝ }
     ensures { λ r. ⌜ r ≡ isName (drop at (now (text .entry))) ⌝ }
 {
     if at == text.len() {
         return false;
     }
-    if is_letter(text[at]) {
-        let next = at + 1;
-        all(text, next, Class::NameByte)
-    } else {
-        false
-    }
+    is_letter(text[at])
 }
 
 // Whether the line from `at` on starts with a letter, then white space or the line's end.

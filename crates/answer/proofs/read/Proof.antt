@@ -8,9 +8,11 @@ use Rattle.edition.specs.Edition.{maxVariables}
 use Rattle.refusal.specs.Result.{accepted}
 use Rattle.constraint.specs.Read.{readFile}
 use Rattle.constraint.specs.File.{File}
+use Rattle.store.specs.Names.{Searchable}
 use Rattle.store.specs.Tables.{storeOf}
 use Rattle.store.specs.Progress.{storedFile}
 use Rattle.store.proofs.LookupLaws.{variables-length}
+use Rattle.store.proofs.SearchLaws.{searchable-none}
 use Rattle.answer.specs.Read.{readAnswer}
 use Rattle.answer.specs.Call.{stored}
 use Rattle.answer.proofs.CallLaws.{reading-constraint, reading-answer, reading-short, reading-row, row-stored}
@@ -31,6 +33,9 @@ file-read c = rw (c .p .given .1) at (c .before .before .read .ensures .0)
 few : (c : tie.After-p) → c .p .given .0 .0 .variables ≤ maxVariables
 few c = (rw (c .p .given .1) at (c .before .before .read .ensures .2)) .variables
 
+found : (c : tie.After-p) → Searchable (start c .args .constraint .now) (c .before .before .read .last .1 .0) (c .p .given .0 .0 .variables)
+found c = rw (c .p .given .1) at (c .before .before .read .ensures .4)
+
 counted : (c : tie.After-p) → length (file c .variables) ≡ c .p .given .0 .0 .variables
 counted c = variables-length (start c .args .constraint .now) (c .before .before .read .last .1 .0) (c .p .given .0 .0 .variables)
 
@@ -42,7 +47,7 @@ row-read : (c : tie.After-enum-told) → accepted (row c) ≡ readAnswer (file (
 row-read c = rw (c .enum-told .given .1) at (c .before .before .read-answer .ensures .0)
 
 read-requires : tie.Need-read-requires
-read-requires c κs = search needs
+read-requires c κs = (search needs, searchable-none _)
 
 enum-known-r : tie.Need-enum-known-r
 enum-known-r c = search needs
@@ -51,7 +56,7 @@ enum-known-p : tie.Need-enum-known-p
 enum-known-p c = search needs
 
 read-answer-requires : tie.Need-read-answer-requires
-read-answer-requires c κs = (few (c .before .before .before), refl)
+read-answer-requires c κs = (few (c .before .before .before), found (c .before .before .before), refl)
 
 enum-known-r-2 : tie.Need-enum-known-r-2
 enum-known-r-2 c = search needs

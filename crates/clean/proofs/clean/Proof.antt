@@ -10,6 +10,7 @@ use Rattle.constraint.specs.Read.{readFile}
 use Rattle.constraint.proofs.SoundLaws.{read-short}
 use Rattle.store.specs.Tables.{Store, storeOf}
 use Rattle.store.specs.Progress.{storedFile, HeadsInUseFit, InTables}
+use Rattle.store.proofs.SearchLaws.{searchable-none}
 use Rattle.printing.proofs.PlaceLaws.{front-length}
 use Rattle.printing.proofs.OutputLaws.{text-written}
 use Rattle.clean_text.specs.Text.{cleanText}
@@ -52,7 +53,7 @@ never-longer c = text-never-longer (bytes c) (file c) (sym (file-read c))
 
 -- ---- the needs
 read-requires : tie.Need-read-requires
-read-requires c κs = search needs
+read-requires c κs = (search needs, searchable-none _)
 
 enum-known-r : tie.Need-enum-known-r
 enum-known-r c = search needs

@@ -8,6 +8,7 @@ use Rattle.store.specs.declared.Progress.{Progress}
 use Rattle.store.specs.Tables.{Store, storeOf}
 use Rattle.store.specs.Progress.{storedFile, InTables}
 use Rattle.store.proofs.LookupLaws.{variables-length}
+use Rattle.store.proofs.SearchLaws.{searchable-none}
 use Rattle.index.specs.Index.{indexing}
 use Rattle.index.proofs.index.Statement.{statement}
 use Rattle.index.proofs.index.Tie as tie
@@ -29,7 +30,7 @@ in-tables : (c : tie.After-p) → InTables (progress c)
 in-tables c = rw (c .p .given .1) at (c .before .before .read .ensures .2)
 
 read-requires : tie.Need-read-requires
-read-requires c κs = search needs
+read-requires c κs = (search needs, searchable-none _)
 
 enum-known-r : tie.Need-enum-known-r
 enum-known-r c = search needs

@@ -1,4 +1,5 @@
 use mathlib.Core.Path.{ap, _∙_}
+use Rattle.store.proofs.SearchLaws.{searchable-none}
 use Rattle.reader.specs.Inspect.{inspected}
 use Rattle.reader.proofs.ReaderLaws.{counts-are}
 use borrow.Author.Needs.{needs}
@@ -6,7 +7,7 @@ use Rattle.reader.proofs.inspect.Statement.{statement}
 use Rattle.reader.proofs.inspect.Tie as tie
 
 read-requires : tie.Need-read-requires
-read-requires c κs = search needs
+read-requires c κs = (search needs, searchable-none _)
 
 enum-known-r : tie.Need-enum-known-r
 enum-known-r c = search needs

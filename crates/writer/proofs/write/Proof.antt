@@ -12,6 +12,7 @@ use Rattle.constraint.proofs.SoundLaws.{read-short}
 use Rattle.store.specs.Tables.{place, Store, storeOf}
 use Rattle.store.specs.Progress.{storedFile, HeadsInUseFit, InTables}
 use Rattle.store.proofs.LookupLaws.{variables-length}
+use Rattle.store.proofs.SearchLaws.{searchable-none}
 use Rattle.judge.specs.Judge.{freshVerdicts, overallOf}
 use Rattle.judge.specs.InUse.{firstUnfit}
 use Rattle.judge.specs.Claims.{RowFits}
@@ -81,7 +82,7 @@ satisfied c =
     c .satisfies .ensures (file p .variables) (heads-fit p)
 
 read-requires : tie.Need-read-requires
-read-requires c κs = search needs
+read-requires c κs = (search needs, searchable-none _)
 
 enum-known-r : tie.Need-enum-known-r
 enum-known-r c = search needs

@@ -30,7 +30,7 @@ refusal-requires : tie.Need-refusal-requires
 refusal-requires c κs = search needs
 
 returns : tie.Need-returns
-returns c = let s = c .before .before .before .before in (rw (c .refusal .ensures) (answer-long (variables s) (s .args .answer .now) (c .before .if1 .taken)), s .pre .1)
+returns c = let s = c .before .before .before .before in (rw (c .refusal .ensures) (answer-long (variables s) (s .args .answer .now) (c .before .if1 .taken)), s .pre .2)
 
 read-lines-requires : tie.Need-read-lines-requires
 read-lines-requires c κs = search needs

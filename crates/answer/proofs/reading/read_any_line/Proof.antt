@@ -24,19 +24,19 @@ all-requires c κs = search needs
 returns : tie.Need-returns
 returns c =
     let s = c .before .before .before .before in
-    (λ next. fine-blank Answer (readAnswerLine (variables s)) (before s) (s .args .line .now) (s .args .at) next (s .pre .3) (sym (c .before .all .ensures) ∙ c .if1 .taken), s .pre .2)
+    (λ next. fine-blank Answer (readAnswerLine (variables s)) (before s) (s .args .line .now) (s .args .at) next (s .pre .4) (sym (c .before .all .ensures) ∙ c .if1 .taken), s .pre .3)
 
 read-line-requires : tie.Need-read-line-requires
 read-line-requires c κs =
     let b = c .before .before in
     let s = b .before .before .before .before in
-    (not-at-end (s .args .line .now) (s .args .at) (sym (b .before .all .ensures) ∙ b .if1 .left), s .pre .1, s .pre .2)
+    (not-at-end (s .args .line .now) (s .args .at) (sym (b .before .all .ensures) ∙ b .if1 .left), s .pre .1, s .pre .2, s .pre .3)
 
 returns-2 : tie.Need-returns-2
 returns-2 c =
     let b = c .before .before .before in
     let s = b .before .before .before .before in
-    (λ next. c .read-line .ensures .0 next ∙ fine-line Answer (readAnswerLine (variables s)) (before s) (s .args .line .now) (s .args .at) next (s .pre .3) (sym (b .before .all .ensures) ∙ b .if1 .left), c .read-line .ensures .1)
+    (λ next. c .read-line .ensures .0 next ∙ fine-line Answer (readAnswerLine (variables s)) (before s) (s .args .line .now) (s .args .at) next (s .pre .4) (sym (b .before .all .ensures) ∙ b .if1 .left), c .read-line .ensures .1)
 
 pub read-any-line-spec : {M : Type 1} → statement M
 read-any-line-spec = tie.close (tie.spec all-requires returns read-line-requires returns-2)

@@ -44,11 +44,11 @@ refusal-requires c κs = search needs
 
 returns : tie.Need-returns
 unfolding readAnswerAs
-returns c = let s = c .before .before .before .before .before in (λ next. of-kind OfComment (variables s) (before s) (lineAt (s .args .line .now) (s .args .at) next) (c .before .before .kind-of .ensures) (c .enum-told .given .1), s .pre .2)
+returns c = let s = c .before .before .before .before .before in (λ next. of-kind OfComment (variables s) (before s) (lineAt (s .args .line .now) (s .args .at) next) (c .before .before .kind-of .ensures) (c .enum-told .given .1), s .pre .3)
 
 returns-2 : tie.Need-returns-2
 unfolding readAnswerAs
-returns-2 c = let s = c .before .before .before .before .before .before in (λ next. c .solution-line .ensures (before s .values) next ∙ of-kind OfSolution (variables s) (before s) (lineAt (s .args .line .now) (s .args .at) next) (c .before .before .before .kind-of .ensures) (c .before .enum-told2 .given .1), s .pre .2)
+returns-2 c = let s = c .before .before .before .before .before .before in (λ next. c .solution-line .ensures (before s .values) next ∙ of-kind OfSolution (variables s) (before s) (lineAt (s .args .line .now) (s .args .at) next) (c .before .before .before .kind-of .ensures) (c .before .enum-told2 .given .1), s .pre .3)
 
 returns-3 : tie.Need-returns-3
 unfolding readAnswerAs
@@ -56,7 +56,7 @@ returns-3 c = let s = c .before .before .before .before .before .before .before 
 
 returns-4 : tie.Need-returns-4
 unfolding readAnswerAs
-returns-4 c = let s = c .before .before .before .before .before .before in (λ next. rw (c .refusal .ensures) (of-kind OfNoKind (variables s) (before s) (lineAt (s .args .line .now) (s .args .at) next) (c .before .before .before .kind-of .ensures) (c .before .enum-told4 .given .1)), s .pre .2)
+returns-4 c = let s = c .before .before .before .before .before .before in (λ next. rw (c .refusal .ensures) (of-kind OfNoKind (variables s) (before s) (lineAt (s .args .line .now) (s .args .at) next) (c .before .before .before .kind-of .ensures) (c .before .enum-told4 .given .1)), s .pre .3)
 
 pub read-line-spec : {M : Type 1} → statement M
 read-line-spec =

@@ -40,7 +40,7 @@ long : (c : tie.After-stop Inv-loop μ-loop) → length (take (c .stop .given .0
 long c = length-take-le (c .stop .given .0 .0) (c .before .before .before .before .before .before .before .args .answer .now) (line c .within)
 
 loop-holds : tie.Need-loop-holds Inv-loop μ-loop
-loop-holds c = let s = c .before .before in (reading-starts Answer (readAnswerLine (variables s)) (before s) (s .args .answer .now), s .pre .1)
+loop-holds c = let s = c .before .before in (reading-starts Answer (readAnswerLine (variables s)) (before s) (s .args .answer .now), s .pre .2)
 
 find-line-requires : tie.Need-find-line-requires Inv-loop μ-loop
 find-line-requires c κs = omega arith
@@ -68,7 +68,7 @@ read-any-line-requires : tie.Need-read-any-line-requires Inv-loop μ-loop
 read-any-line-requires c κs =
     let a = c .before .before .before .before in
     let l = a .before .before .before .before in
-    (omega (arith, long a, line a .begun), l .before .before .before .pre .0, l .loop .inv .1, line a .allowed)
+    (omega (arith, long a, line a .begun), l .before .before .before .pre .0, l .before .before .before .pre .1, l .loop .inv .1, line a .allowed)
 
 enum-known-r : tie.Need-enum-known-r Inv-loop μ-loop
 enum-known-r c = search needs

@@ -1,5 +1,5 @@
 use Prim.Native.Nat.{_^_}
-use mathlib.Core.Path.{_≡_, sym, ap, _∙_}
+use mathlib.Core.Path.{_≡_, refl, sym, ap, _∙_}
 use mathlib.Core.List.{List}
 use lib.Dec.{ltb}
 use borrow.Author.Needs.{needs}
@@ -24,10 +24,10 @@ sub-if1 : tie.Need-sub-if1
 sub-if1 c = search needs
 
 returns : tie.Need-returns
-returns c = let a = c .before .before .before .args in (named-long (variables (c .before .before .before)) (a .text .now) (a .at) (a .v) (c .if1 .taken), tt)
+returns c = let a = c .before .before .before .args in (named-long (variables (c .before .before .before)) (a .text .now) (a .at) (a .stop) (a .v) (c .if1 .taken), tt)
 
-lookup-requires : tie.Need-lookup-requires
-lookup-requires c κs = search needs
+find-requires : tie.Need-find-requires
+find-requires c κs = search needs
 
 enum-told : tie.Need-enum-told
 enum-told c = search needs
@@ -42,20 +42,20 @@ fits-requires : tie.Need-fits-requires
 fits-requires c κs = search needs
 
 returns-2 : tie.Need-returns-2
-returns-2 c = let a = c .before .before .before .before .before .before .args in (named-unknown (variables (c .before .before .before .before .before .before)) (a .text .now) (a .at) (a .v) (c .before .before .before .if1 .left) (sym (ap place (c .enum-told .given .1)) ∙ c .before .before .lookup .ensures), tt)
+returns-2 c = let a = c .before .before .before .before .before .before .args in (named-unknown (variables (c .before .before .before .before .before .before)) (a .text .now) (a .at) (a .stop) (a .v) (c .before .before .before .if1 .left) (sym (ap place (c .enum-told .given .1)) ∙ c .before .before .find .ensures), tt)
 
 returns-3 : tie.Need-returns-3
 returns-3 c =
     let a = c .before .before .before .before .before .before .before .before .before .before .args in
     let i = c .before .before .before .before .i .given in
-    let e = sym (ap place (i .1)) ∙ c .before .before .before .before .before .before .lookup .ensures in
-    (named-set (variables (c .before .before .before .before .before .before .before .before .before .before)) (a .text .now) (a .at) (a .v) (c .before .before .before .before .before .before .before .if1 .left) (i .0 .0) e (sym (fit (c .before)) ∙ c .if2 .taken), found-below _ (variables (c .before .before .before .before .before .before .before .before .before .before)) (i .0 .0) (a .n) (variables-length (a .file .now) (a .variables .now) (a .n)) e)
+    let e = sym (ap place (i .1)) ∙ c .before .before .before .before .before .before .find .ensures in
+    (named-set (variables (c .before .before .before .before .before .before .before .before .before .before)) (a .text .now) (a .at) (a .stop) (a .v) (c .before .before .before .before .before .before .before .if1 .left) (i .0 .0) e (sym (fit (c .before)) ∙ c .if2 .taken), (found-below _ (variables (c .before .before .before .before .before .before .before .before .before .before)) (i .0 .0) (a .n) (variables-length (a .file .now) (a .variables .now) (a .n)) e, refl))
 
 returns-4 : tie.Need-returns-4
 returns-4 c =
     let a = c .before .before .before .before .before .before .before .before .before .before .args in
     let i = c .before .before .before .before .i .given in
-    (named-unfit (variables (c .before .before .before .before .before .before .before .before .before .before)) (a .text .now) (a .at) (a .v) (c .before .before .before .before .before .before .before .if1 .left) (i .0 .0) (sym (ap place (i .1)) ∙ c .before .before .before .before .before .before .lookup .ensures) (sym (fit (c .before)) ∙ c .if2 .left), tt)
+    (named-unfit (variables (c .before .before .before .before .before .before .before .before .before .before)) (a .text .now) (a .at) (a .stop) (a .v) (c .before .before .before .before .before .before .before .if1 .left) (i .0 .0) (sym (ap place (i .1)) ∙ c .before .before .before .before .before .before .find .ensures) (sym (fit (c .before)) ∙ c .if2 .left), tt)
 
 pub setting-of-spec : {M : Type 1} → statement M
 setting-of-spec =
@@ -63,7 +63,7 @@ setting-of-spec =
     (tie.spec
     sub-if1
     returns
-    lookup-requires
+    find-requires
     enum-told
     enum-known-i
     width-of-requires

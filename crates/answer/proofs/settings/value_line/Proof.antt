@@ -15,7 +15,7 @@ refusal-requires : tie.Need-refusal-requires
 refusal-requires c κs = search needs
 
 returns : tie.Need-returns
-returns c = let a = c .before .before .before .before .args in (λ next. rw (c .refusal .ensures) (values-misplaced (variables (c .before .before .before .before)) (a .solved) (entriesIn (a .flags .now) (a .values .now) (a .n)) (a .line .now) (a .at) next (not-true (a .solved) (c .before .if1 .taken))), c .before .before .before .before .pre .2)
+returns c = let a = c .before .before .before .before .args in (λ next. rw (c .refusal .ensures) (values-misplaced (variables (c .before .before .before .before)) (a .solved) (entriesIn (a .flags .now) (a .values .now) (a .n)) (a .line .now) (a .at) next (not-true (a .solved) (c .before .if1 .taken))), c .before .before .before .before .pre .3)
 
 add-next : tie.Need-add-next
 add-next c = search needs

@@ -1,135 +1,104 @@
+use Prim.Native.Nat.{ℕ, _-_, _≤_, _<_}
+use mathlib.Core.Path.{_≡_, refl, sym, _∙_}
 use mathlib.Core.Bool.{true}
-use mathlib.Core.Path.{_≡_, sym}
-use Prim.Native.Nat.{_+_, _-_, _≤_, _<_}
+use mathlib.Core.List.{List, _∷_}
 use native.Mathlib.Omega.{arith}
 use lib.ListN.{length, take, drop}
 use lib.Seq.{length-take-le}
 use borrow.Author.Needs.{needs}
-use Rattle.edition.specs.Edition.{maxVariables, maxNameBytes, maxWidth}
+use Rattle.edition.specs.Edition.{maxVariables}
+use Rattle.text.specs.declared.Class.the-variants.{Space, Solid}
 use Rattle.text.specs.Lines.{tokensFrom}
-use Rattle.text.specs.Scan.{tokenAt}
-use Rattle.text.proofs.TokenLaws.{tokens-end}
-use Rattle.constraint.specs.File.{editionOf}
-use Rattle.store.specs.Tables.{byteValues}
+use Rattle.text.specs.Scan.{isOf, past, tokenFrom}
+use Rattle.text.proofs.RunLaws.{scan-bounds}
+use Rattle.text.proofs.TokenLaws.{tokens-end, tokens-done, tokens-turn, token-within}
+use Rattle.declaration.specs.declared.Put.the-variants.{UpTo}
+use Rattle.declaration.specs.Internal.{PutHolds}
 use Rattle.declaration.proofs.DeclareLaws.{Declaring, declaring-starts, declaring-done, declaring-fault, declaring-more}
 use Rattle.declaration.proofs.declarations.declare_all.Statement.{statement}
 use Rattle.declaration.proofs.declarations.declare_all.Tie as tie
 
 abbrev Inv-loop : tie.InvT-loop
-Inv-loop file stop at variables₀ guesses₀ n k₀ i₀ variables guesses k i = Declaring file stop at variables₀ n variables k i × (length guesses ≡ byteValues)
+Inv-loop file stop at variables₀ n k₀ i₀ variables k i = Declaring file stop at variables₀ n variables k i
 
 abbrev μ-loop : tie.MeasureT-loop
-μ-loop file stop at variables₀ guesses₀ n k₀ i₀ variables guesses k i = stop - i
+μ-loop file stop at variables₀ n k₀ i₀ variables k i = stop - i
 
 -- the line that is cut out of the file
-cut : (c : tie.Start Inv-loop μ-loop) → length (take (c .args .stop) (c .args .file .now)) ≡ c .args .stop
-cut c = length-take-le (c .args .stop) (c .args .file .now) (c .pre .1)
+abbrev line : tie.Start Inv-loop μ-loop → List ℕ
+line s = take (s .args .stop) (s .args .file .now)
 
--- the token lies in the rest of the line
-within : (c : tie.After-known-told Inv-loop μ-loop) → let t = c .before .t .given .0 .0 in let a = c .before .before .before .before .before .before .before .before .args in (c .before .before .before .before .before .before .loop .i < t .stop) × (t .start < t .stop) × (t .stop ≤ a .stop) × (length (take (t .stop) (take (a .stop) (a .file .now))) ≡ t .stop)
-within c =
-    let t = c .before .t .given .0 .0 in
-    let a = c .before .before .before .before .before .before .before .before .args in
-    let w = rw (c .before .t .given .1) at (c .before .before .before .next-token .ensures .1) in
-    (omega arith, w .1, omega (arith, cut (c .before .before .before .before .before .before .before .before)), length-take-le (t .stop) (take (a .stop) (a .file .now)) (w .2))
+cut : (s : tie.Start Inv-loop μ-loop) → length (line s) ≡ s .args .stop
+cut s = length-take-le (s .args .stop) (s .args .file .now) (s .pre .1)
 
--- the declaration fits into the table, and its name into the token
-fresh : (c : tie.After-known-told3 Inv-loop μ-loop) → let t = c .before .before .before .before .before .before .before .t .given .0 .0 in let d = c .before .len .given .0 in (c .before .before .before .before .before .before .before .before .before .before .before .before .loop .k < maxVariables) × (t .start + d .0 ≤ t .stop) × (d .0 ≤ maxNameBytes) × (d .1 .0 ≤ maxWidth)
-fresh c =
-    let w = within (c .before .before .before .before .before .before) in
-    let h = rw (c .before .len .given .1) at (c .before .before .before .declare .ensures .1) in
-    (h .0, omega (arith, h .1), h .2, h .3)
+-- a token starts before the line's end
+below : (c : tie.Else1 Inv-loop μ-loop) → c .before .spaces .result < c .before .before .before .before .before .before .args .stop
+below c =
+    let l = c .before .before .before .before in
+    let s = l .before .before in
+    omega (arith, scan-bounds (isOf Space) (line s) (l .loop .i) (c .before .spaces .result) (omega (arith, cut s, l .loop .inv .within)) (c .before .spaces .ensures), cut s)
+
+-- it is the next token, and lies in the line
+turn : (c : tie.Else1 Inv-loop μ-loop) → let l = c .before .before .before .before in let line = line (l .before .before) in let start = c .before .spaces .result in let end = past (isOf Solid) line start in tokensFrom true (l .loop .i) (drop (l .loop .i) line) ≡ tokenFrom line start ∷ tokensFrom true end (drop end line)
+turn c =
+    let l = c .before .before .before .before in
+    let s = l .before .before in
+    tokens-turn (line s) (l .loop .i) (c .before .spaces .result) (c .before .spaces .ensures) (omega (arith, below c, cut s)) _ refl
+
+turned : (c : tie.Else1 Inv-loop μ-loop) → let l = c .before .before .before .before in let s = l .before .before in let end = past (isOf Solid) (line s) (c .before .spaces .result) in (l .loop .i < end) × (end ≤ s .args .stop)
+turned c =
+    let l = c .before .before .before .before in
+    let s = l .before .before in
+    let w = token-within (line s) (l .loop .i) (c .before .spaces .result) (c .before .spaces .ensures) (omega (arith, below c, cut s)) _ refl in
+    (omega (arith, w .0, w .1), omega (arith, w .2, cut s))
+
+-- what a declaration that was put into the table leaves
+puts : (c : tie.After-known-told2 Inv-loop μ-loop) → let d = c .before .before .before in let e = d .before .before in let l = e .before .before .before .before in let s = l .before .before in PutHolds (s .args .file .now) (s .args .stop) (e .before .spaces .result) (d .declare-next .last .1 .1 .1 .0) (l .loop .k) (UpTo (c .before .end .given .0 .0))
+puts c = rw (c .before .end .given .1) at (c .before .before .before .declare-next .ensures .1)
 
 loop-holds : tie.Need-loop-holds Inv-loop μ-loop
-loop-holds c =
-    let s = c .before in
-    (declaring-starts (s .args .file .now) (s .args .stop) (s .args .at) (s .args .variables .now) (s .args .n) (s .pre .0) (s .pre .3) (s .pre .4), s .pre .5)
+loop-holds c = let s = c .before in
+    declaring-starts (s .args .file .now) (s .args .stop) (s .args .at) (s .args .variables .now) (s .args .n) (s .pre .0) (s .pre .3) (s .pre .4) (s .pre .5)
 
-slice-aggregate-line : tie.Need-slice-aggregate-line Inv-loop μ-loop
-slice-aggregate-line c = sym (cut (c .before .before .before .before))
+slice-aggregate-spaces : tie.Need-slice-aggregate-spaces Inv-loop μ-loop
+slice-aggregate-spaces c = sym (cut (c .before .before .before .before))
 
-next-token-requires : tie.Need-next-token-requires Inv-loop μ-loop
-next-token-requires c κs = omega (arith, cut (c .before .before .before .before))
-
-enum-told : tie.Need-enum-told Inv-loop μ-loop
-enum-told c = search needs
+spaces-requires : tie.Need-spaces-requires Inv-loop μ-loop
+spaces-requires c κs = omega (arith, cut (c .before .before .before .before))
 
 returns : tie.Need-returns Inv-loop μ-loop
-returns c =
+returns c = let i = c .before .before .before .before .loop .inv in
+    (declaring-done i (tokens-done (line (c .before .before .before .before .before .before)) _ _ (c .before .spaces .ensures) (c .if1 .taken ∙ sym (cut (c .before .before .before .before .before .before)))), i .whole, (i .few, i .held))
+
+declare-next-requires : tie.Need-declare-next-requires Inv-loop μ-loop
+declare-next-requires c κs = let s = c .before .before .before .before .before .before .before in
     let i = c .before .before .before .before .before .loop .inv in
-    (declaring-done (i .0) (rw (c .enum-told .given .1) at (c .before .before .next-token .ensures .0)), i .0 .whole, i .1, i .0 .few)
+    (below (c .before), s .pre .1, s .pre .2, i .few, i .whole, i .held)
 
-enum-known-t : tie.Need-enum-known-t Inv-loop μ-loop
-enum-known-t c = search needs
-
-slice-aggregate-declare : tie.Need-slice-aggregate-declare Inv-loop μ-loop
-slice-aggregate-declare c = sym (within (c .before .before) .3)
-
-declare-requires : tie.Need-declare-requires Inv-loop μ-loop
-declare-requires c κs =
-    let w = rw (c .before .before .before .t .given .1) at (c .before .before .before .before .before .next-token .ensures .1) in
-    (omega (arith, within (c .before .before)), c .before .before .before .before .before .before .before .before .loop .inv .0 .few, w .3)
-
-enum-known-number : tie.Need-enum-known-number Inv-loop μ-loop
-enum-known-number c = search needs
-
-refusal-requires : tie.Need-refusal-requires Inv-loop μ-loop
-refusal-requires c κs = search needs
+enum-known-r : tie.Need-enum-known-r Inv-loop μ-loop
+enum-known-r c = search needs
 
 returns-2 : tie.Need-returns-2 Inv-loop μ-loop
-returns-2 c =
-    let i = c .before .before .before .before .before .before .before .before .before .before .before .before .before .loop .inv in
-    let a = c .before .before .before .before .before .before .before .before .before .before .before .before .before .before .before .args in
-    let t = c .before .before .before .before .before .before .before .before .t .given .0 .0 in
-    let line = take (a .stop) (a .file .now) in (
-      declaring-fault (i .0) (tokenAt (take (t .stop) line) (t .start)) (tokensFrom true (t .stop) (drop (t .stop) line)) (rw (c .before .before .before .before .before .before .before .before .t .given .1) at (c .before .before .before .before .before .before .before .before .before .before .next-token .ensures .0)) (c .refusal .result) (λ f. rw (c .refusal .ensures) (rw (c .before .before .number .given .1) at (c .before .before .before .before .declare .ensures .0 (editionOf f)))),
-      i .0 .whole,
-      i .1,
-      tt,
-    )
+returns-2 c = let d = c .before .before .before .declare-next .ensures in
+    (declaring-fault (c .before .before .before .before .before .before .before .before .before .loop .inv) _ _ (turn (c .before .before .before .before .before)) _ (λ e. rw (c .before .r .given .1) at (d .0 e)), d .2, tt)
 
-enum-known-len : tie.Need-enum-known-len Inv-loop μ-loop
-enum-known-len c = search needs
-
-variable-word-requires : tie.Need-variable-word-requires Inv-loop μ-loop
-variable-word-requires c κs =
-    let w = within (c .before .before .before .before .before .before) in
-    let h = fresh c in
-    (omega arith, h .2, h .3)
-
-mul-variables : tie.Need-mul-variables Inv-loop μ-loop
-mul-variables c = search needs
-
-element-write-variables : tie.Need-element-write-variables Inv-loop μ-loop
-element-write-variables c = omega (arith, fresh (c .before) .0, c .before .before .before .before .before .before .before .before .before .before .before .before .before .loop .inv .0 .whole)
-
-add-remember : tie.Need-add-remember Inv-loop μ-loop
-add-remember c = omega (arith, fresh (c .before .before) .1, within (c .before .before .before .before .before .before .before .before) .2)
-
-remember-requires : tie.Need-remember-requires Inv-loop μ-loop
-remember-requires c κs = (c .before .before .before .before .before .before .before .before .before .before .before .before .before .before .loop .inv .1, omega (arith, fresh (c .before .before) .1, within (c .before .before .before .before .before .before .before .before) .2))
+enum-known-end : tie.Need-enum-known-end Inv-loop μ-loop
+enum-known-end c = search needs
 
 add-k : tie.Need-add-k Inv-loop μ-loop
-add-k c = search needs
+add-k c = omega (arith, puts (c))
 
 loop-less : tie.Need-loop-less Inv-loop μ-loop
-loop-less c = omega (arith, within (c .before .before .before .before .before .before .before .before .before))
+loop-less c = omega (arith, puts (c), turned (c .before .before .before .before .before))
 
 loop-again : tie.Need-loop-again Inv-loop μ-loop
-loop-again c =
-    let t = c .before .before .before .before .before .before .before .before .before .before .t .given .0 .0 in
-    let w = within (c .before .before .before .before .before .before .before .before .before) in
-    let h = fresh (c .before .before .before) in (
-      rw (c .before .before .variable-word .ensures) (declaring-more (c .before .before .before .before .before .before .before .before .before .before .before .before .before .before .before .loop .inv .0) (t .start) (t .stop) (c .before .before .before .before .len .given .0 .0) (c .before .before .before .before .len .given .0 .1 .0) (h .0) (h .1) (h .2) (h .3) (w .2) (c .before .before .before .before .before .before .before .before .before .before .before .before .before .before .before .before .before .pre .1) (omega arith) (rw (c .before .before .before .before .before .before .before .before .before .before .t .given .1) at (c .before .before .before .before .before .before .before .before .before .before .before .before .next-token .ensures .0)) (λ f. rw (c .before .before .before .before .len .given .1) at (c .before .before .before .before .before .before .declare .ensures .0 (editionOf f)))),
-      c .remember .ensures,
-    )
+loop-again c = let d = c .before .before .before .declare-next .ensures in
+    let h = puts (c) in
+    rw (h .0) (declaring-more (c .before .before .before .before .before .before .before .before .before .loop .inv) _ _ _ (turn (c .before .before .before .before .before)) (turned (c .before .before .before .before .before) .1) (h .1) (d .2) (h .2) (λ e. rw (c .before .end .given .1) at (d .0 e)))
 
 returns-3 : tie.Need-returns-3 Inv-loop μ-loop
-returns-3 c =
-    let i = c .before .loop .inv in
-    let line = take (c .before .before .before .args .stop) (c .before .before .before .args .file .now) in
-    let h : length line ≤ c .before .loop .i = omega (arith, cut (c .before .before .before)) in
-    (declaring-done (i .0) (tokens-end line (c .before .loop .i) h), i .0 .whole, i .1, i .0 .few)
+returns-3 c = let i = c .before .loop .inv in
+    (declaring-done i (tokens-end (line (c .before .before .before)) _ (omega (arith, cut (c .before .before .before)))), i .whole, (i .few, i .held))
 
 pub declare-all-spec : {M : Type 1} → statement M
 declare-all-spec =
@@ -138,22 +107,13 @@ declare-all-spec =
     Inv-loop
     μ-loop
     loop-holds
-    slice-aggregate-line
-    next-token-requires
-    enum-told
+    slice-aggregate-spaces
+    spaces-requires
     returns
-    enum-known-t
-    slice-aggregate-declare
-    declare-requires
-    enum-known-number
-    refusal-requires
+    declare-next-requires
+    enum-known-r
     returns-2
-    enum-known-len
-    variable-word-requires
-    mul-variables
-    element-write-variables
-    add-remember
-    remember-requires
+    enum-known-end
     add-k
     loop-less
     loop-again

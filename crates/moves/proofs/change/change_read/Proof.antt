@@ -7,6 +7,7 @@ use Rattle.constraint.specs.Read.{readFile}
 use Rattle.store.specs.declared.Progress.{Progress}
 use Rattle.store.specs.Tables.{Store, storeOf}
 use Rattle.store.specs.Progress.{storedFile, InTables, HeadsInUseFit}
+use Rattle.store.proofs.SearchLaws.{searchable-none}
 use Rattle.judge.proofs.HeldLaws.{lines-fit}
 use Rattle.index.specs.Internal.{fileOf}
 use Rattle.moves.specs.Step.{tablesOf}
@@ -37,7 +38,7 @@ heads-fit : (c : tie.After-p) → HeadsInUseFit (bytes c) (tables c) (progress c
 heads-fit c = rw (c .p .given .1) at (c .before .before .read .ensures .3)
 
 read-requires : tie.Need-read-requires
-read-requires c κs = search needs
+read-requires c κs = (search needs, searchable-none _)
 
 enum-known-r : tie.Need-enum-known-r
 enum-known-r c = search needs

@@ -11,17 +11,14 @@ use Rattle.operand.proofs.variables.named.Statement.{statement}
 use Rattle.operand.proofs.variables.named.Tie as tie
 
 -- where the bytes of the name stop
-bounds : (c : tie.After-name-bytes) → let a = c .before .before .before .args in (a .at < c .name-bytes .result) × (c .name-bytes .result ≤ length (a .line .now)) × (length (take (c .name-bytes .result) (a .line .now)) ≡ c .name-bytes .result)
+bounds : (c : tie.After-name-at) → let a = c .before .before .before .args in (a .at < c .name-at .result .stop) × (c .name-at .result .stop ≤ length (a .line .now)) × (length (take (c .name-at .result .stop) (a .line .now)) ≡ c .name-at .result .stop)
 bounds c =
     let s = c .before .before .before in
-    let b = name-bounds (s .args .line .now) (s .args .at) (s .pre .0) (s .pre .2) (c .name-bytes .result) (c .name-bytes .ensures) in
-    (b .0, b .1, length-take-le (c .name-bytes .result) (s .args .line .now) (b .1))
+    let b = name-bounds (s .args .line .now) (s .args .at) (s .pre .0) (s .pre .2) (c .name-at .result .stop) (c .name-at .ensures .0) in
+    (b .0, b .1, length-take-le (c .name-at .result .stop) (s .args .line .now) (b .1))
 
-add-next : tie.Need-add-next
-add-next c = search needs
-
-name-bytes-requires : tie.Need-name-bytes-requires
-name-bytes-requires c κs = search needs
+name-at-requires : tie.Need-name-at-requires
+name-at-requires c κs = search needs
 
 token-ends-requires : tie.Need-token-ends-requires
 token-ends-requires c κs = bounds c .1
@@ -30,7 +27,7 @@ slice-aggregate-variable : tie.Need-slice-aggregate-variable
 slice-aggregate-variable c = sym (bounds (c .before .before .before) .2)
 
 variable-requires : tie.Need-variable-requires
-variable-requires c κs = let n = c .before .before .before in (omega (arith, bounds n), n .before .before .before .pre .1)
+variable-requires c κs = let n = c .before .before .before in (omega (arith, bounds n), n .before .before .before .pre .1, n .before .before .before .pre .3, n .name-at .ensures .1)
 
 enum-known-number : tie.Need-enum-known-number
 enum-known-number c = search needs
@@ -50,7 +47,7 @@ returns c =
     let n = v .before .before .before .before in
     let s = n .before .before .before in
     let e = sym (v .before .before .before .token-ends .ensures) ∙ v .before .before .if1 .taken in
-    (λ d. rw (c .refusal .ensures) (named-refused _ (s .args .line .now) (s .args .at) (s .pre .0) (s .pre .2) (n .name-bytes .result) (n .name-bytes .ensures) e _ (rw (c .before .before .number .given .1) at (v .variable .ensures .0 d))), tt, tt)
+    (rw (c .refusal .ensures) (named-refused _ (s .args .line .now) (s .args .at) (s .pre .0) (s .pre .2) (n .name-at .result .stop) (n .name-at .ensures .0) e _ (rw (c .before .before .number .given .1) at (v .variable .ensures .0))), tt, tt)
 
 returns-2 : tie.Need-returns-2
 returns-2 c =
@@ -58,21 +55,20 @@ returns-2 c =
     let n = v .before .before .before .before in
     let s = n .before .before .before in
     let e = sym (v .before .before .before .token-ends .ensures) ∙ v .before .before .if1 .taken in
-    (λ d. named-read _ (s .args .line .now) (s .args .at) (s .pre .0) (s .pre .2) (n .name-bytes .result) (n .name-bytes .ensures) e _ (rw (c .before .head .given .1) at (v .variable .ensures .0 d)), bounds n .1, rw (c .before .head .given .1) at (v .variable .ensures .1))
+    (named-read _ (s .args .line .now) (s .args .at) (s .pre .0) (s .pre .2) (n .name-at .result .stop) (n .name-at .ensures .0) e _ (rw (c .before .head .given .1) at (v .variable .ensures .0)), bounds n .1, rw (c .before .head .given .1) at (v .variable .ensures .1))
 
 returns-3 : tie.Need-returns-3
 returns-3 c =
     let n = c .before .before .before in
     let s = n .before .before .before in
     let e = sym (c .before .before .token-ends .ensures) ∙ c .before .if1 .left in
-    (λ d. rw (c .refusal2 .ensures) (named-broken _ (s .args .line .now) (s .args .at) (s .pre .0) (s .pre .2) (n .name-bytes .result) (n .name-bytes .ensures) e), tt, tt)
+    (rw (c .refusal2 .ensures) (named-broken _ (s .args .line .now) (s .args .at) (s .pre .0) (s .pre .2) (n .name-at .result .stop) (n .name-at .ensures .0) e), tt, tt)
 
 pub named-spec : {M : Type 1} → statement M
 named-spec =
     tie.close
     (tie.spec
-    add-next
-    name-bytes-requires
+    name-at-requires
     token-ends-requires
     slice-aggregate-variable
     variable-requires

@@ -14,7 +14,7 @@ sub-if1 : tie.Need-sub-if1
 sub-if1 c = search needs
 
 returns : tie.Need-returns
-returns c = (λ u. variable-long _ _ _ (c .if1 .taken), tt)
+returns c = (variable-long _ _ _ (c .if1 .taken), tt)
 
 find-requires : tie.Need-find-requires
 find-requires c κs = search needs
@@ -39,12 +39,12 @@ returns-2 c =
     let a = s .before .before .before .before .args in
     let e = w .ensures (a .file .now) in
     let b : w .result < variableMark = rw e (width-below (a .file .now) (a .variables .now) (a .n) i) in
-    (λ u. rw (c .variable-head .ensures, operand-variable (variableMark + headWidth (w .result)) i (omega arith)) (variable-found _ _ _ (s .before .if1 .left) _ (ap place (sym (c .before .before .before .i .given .1)) ∙ s .find .ensures u)), rw (c .variable-head .ensures) (variable-fits (variablesIn (a .file .now) (a .variables .now) (a .n)) i (w .result) e b))
+    (rw (c .variable-head .ensures, operand-variable (variableMark + headWidth (w .result)) i (omega arith)) (variable-found _ _ _ (s .before .if1 .left) _ (ap place (sym (c .before .before .before .i .given .1)) ∙ s .find .ensures)), rw (c .variable-head .ensures) (variable-fits (variablesIn (a .file .now) (a .variables .now) (a .n)) i (w .result) e b))
 
 returns-3 : tie.Need-returns-3
 returns-3 c =
     let s = c .before .before in
-    (λ u. variable-unknown _ _ _ (s .before .if1 .left) (ap place (sym (c .enum-told .given .1)) ∙ s .find .ensures u), tt)
+    (variable-unknown _ _ _ (s .before .if1 .left) (ap place (sym (c .enum-told .given .1)) ∙ s .find .ensures), tt)
 
 pub variable-spec : {M : Type 1} → statement M
 variable-spec =

@@ -36,19 +36,19 @@ all-requires c κs = starts-in (c .before .before)
 returns : tie.Need-returns
 returns c =
     let s = c .before .before .before .before in
-    (λ next. fine-blank Constraint readLine (before s) (text s) (s .args .at) next (s .pre .7) (sym (c .before .all .ensures) ∙ c .if1 .taken), s .pre .4, s .pre .5, tt, λ f. f)
+    (λ next. fine-blank Constraint readLine (before s) (text s) (s .args .at) next (s .pre .6) (sym (c .before .all .ensures) ∙ c .if1 .taken), s .pre .4, s .pre .5, tt, λ f. f)
 
 read-line-requires : tie.Need-read-line-requires
 read-line-requires c κs =
-    let b = c .before .before .before .before in
+    let b = c .before .before .before in
     let s = b .before .before .before .before in
-    (omega (arith, long s, not-at-end (text s) (s .args .at) (sym (b .before .all .ensures) ∙ b .if1 .left)), s .pre .1, s .pre .2, s .pre .3, s .pre .4, s .pre .5, s .pre .6)
+    (omega (arith, long s, not-at-end (text s) (s .args .at) (sym (b .before .all .ensures) ∙ b .if1 .left)), s .pre .1, s .pre .2, s .pre .3, s .pre .4, s .pre .5)
 
 returns-2 : tie.Need-returns-2
 returns-2 c =
-    let b = c .before .before .before .before .before in
+    let b = c .before .before .before .before in
     let s = b .before .before .before .before in
-    (λ next. c .read-line .ensures .0 next ∙ fine-line Constraint readLine (before s) (text s) (s .args .at) next (s .pre .7) (sym (b .before .all .ensures) ∙ b .if1 .left), c .read-line .ensures .1, c .read-line .ensures .2, c .read-line .ensures .3, c .read-line .ensures .4)
+    (λ next. c .read-line .ensures .0 next ∙ fine-line Constraint readLine (before s) (text s) (s .args .at) next (s .pre .6) (sym (b .before .all .ensures) ∙ b .if1 .left), c .read-line .ensures .1, c .read-line .ensures .2, c .read-line .ensures .3, c .read-line .ensures .4)
 
 pub read-any-line-spec : {M : Type 1} → statement M
 read-any-line-spec = tie.close (tie.spec slice-aggregate-all all-requires returns read-line-requires returns-2)

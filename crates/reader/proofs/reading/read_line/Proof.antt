@@ -11,7 +11,7 @@ use Rattle.constraint.specs.File.{File}
 use Rattle.constraint.specs.Read.{readAs}
 use Rattle.store.specs.Tables.{Store, storeOf}
 use Rattle.store.specs.Progress.{storedFile}
-use Rattle.reader.proofs.ReaderLaws.{of-kind, header-fits, variables-fit, header-room, variables-room}
+use Rattle.reader.proofs.ReaderLaws.{of-kind, header-fits, header-searchable, variables-fit, header-room, variables-room}
 use borrow.Author.Needs.{needs}
 use Rattle.reader.proofs.reading.read_line.Statement.{statement}
 use Rattle.reader.proofs.reading.read_line.Tie as tie
@@ -92,35 +92,35 @@ unfolding readAs
 returns-2 c =
     let r = c .header-line .ensures in
     let s = c .before .before .before .before .before .before .before in
-    (λ next. r .0 (s .args .file .now) (tables s) next ∙ of-kind OfVersion (before s) (line s next) (c .before .before .before .before .kind-of .ensures) (c .before .before .enum-told2 .given .1), s .pre .4, s .pre .5, header-room (s .args .p) (c .header-line .result) (r .1), header-fits (s .args .file .now) (tables s) (s .args .p) (c .header-line .result) (r .1))
+    (λ next. r .0 (s .args .file .now) (tables s) next ∙ of-kind OfVersion (before s) (line s next) (c .before .before .before .before .kind-of .ensures) (c .before .before .enum-told2 .given .1), s .pre .4, header-searchable (s .args .file .now) (tables s) (s .args .p) (c .header-line .result) (r .1) (s .pre .5), header-room (s .args .p) (c .header-line .result) (r .1), header-fits (s .args .file .now) (tables s) (s .args .p) (c .header-line .result) (r .1))
 
 returns-3 : tie.Need-returns-3
 unfolding readAs
 returns-3 c =
     let r = c .header-line2 .ensures in
     let s = c .before .before .before .before .before .before .before in
-    (λ next. r .0 (s .args .file .now) (tables s) next ∙ of-kind OfExpectation (before s) (line s next) (c .before .before .before .before .kind-of .ensures) (c .before .before .enum-told3 .given .1), s .pre .4, s .pre .5, header-room (s .args .p) (c .header-line2 .result) (r .1), header-fits (s .args .file .now) (tables s) (s .args .p) (c .header-line2 .result) (r .1))
+    (λ next. r .0 (s .args .file .now) (tables s) next ∙ of-kind OfExpectation (before s) (line s next) (c .before .before .before .before .kind-of .ensures) (c .before .before .enum-told3 .given .1), s .pre .4, header-searchable (s .args .file .now) (tables s) (s .args .p) (c .header-line2 .result) (r .1) (s .pre .5), header-room (s .args .p) (c .header-line2 .result) (r .1), header-fits (s .args .file .now) (tables s) (s .args .p) (c .header-line2 .result) (r .1))
 
 returns-4 : tie.Need-returns-4
 unfolding readAs
 returns-4 c =
     let r = c .declaration-line .ensures in
-    let s = c .before .before .before .before .before .before .before .before in
-    (λ next. r .0 (s .args .heads .now) (s .args .bodies .now) next ∙ of-kind OfDeclarations (before s) (line s next) (c .before .before .before .before .before .kind-of .ensures) (c .before .before .before .enum-told4 .given .1), record { variables = r .1; heads = s .pre .4 .heads; bodies = s .pre .4 .bodies }, r .2, variables-room (s .args .p) (c .declaration-line .result) (r .3), λ f. variables-fit (s .args .file .now) _ (s .args .p) (c .declaration-line .result) (r .3))
+    let s = c .before .before .before .before .before .before .before in
+    (λ next. r .0 (s .args .heads .now) (s .args .bodies .now) next ∙ of-kind OfDeclarations (before s) (line s next) (c .before .before .before .before .kind-of .ensures) (c .before .before .enum-told4 .given .1), record { variables = r .1; heads = s .pre .4 .heads; bodies = s .pre .4 .bodies }, r .3, variables-room (s .args .p) (c .declaration-line .result) (r .2), λ f. variables-fit (s .args .file .now) _ (s .args .p) (c .declaration-line .result) (r .2))
 
 returns-5 : tie.Need-returns-5
 unfolding readAs
 returns-5 c =
     let r = c .read-statement .ensures in
-    let k = c .before .before .before .before .before .before in
+    let k = c .before .before .before .before .before in
     let s = k .before .before .before .before .before in
-    (λ next. r .0 next ∙ of-kind (OfStatement (k .form .given .0 .0)) (before s) (line s next) (k .before .before .kind-of .ensures) (k .form .given .1), record { variables = s .pre .4 .variables; heads = r .1; bodies = r .2 }, s .pre .5, r .3, r .4)
+    (λ next. r .0 next ∙ of-kind (OfStatement (k .form .given .0 .0)) (before s) (line s next) (k .before .before .kind-of .ensures) (k .form .given .1), record { variables = s .pre .4 .variables; heads = r .1; bodies = r .2 }, r .5, r .3, r .4)
 
 returns-6 : tie.Need-returns-6
 unfolding readAs
 returns-6 c =
     let s = c .before .before .before .before .before .before in
-    (λ next. rw (c .refusal .ensures) (of-kind OfNoKind (before s) (line s next) (c .before .before .before .kind-of .ensures) (c .before .enum-told5 .given .1)), s .pre .4, s .pre .5, tt, λ f. tt)
+    (λ next. rw (c .refusal .ensures) (of-kind OfNoKind (before s) (line s next) (c .before .before .before .kind-of .ensures) (c .before .enum-told5 .given .1)), s .pre .4, tt, tt, λ f. tt)
 
 pub read-line-spec : {M : Type 1} → statement M
 read-line-spec =

@@ -38,7 +38,7 @@ slice-aggregate-line c = sym (long (c .before .before))
 statement-line-requires : tie.Need-statement-line-requires
 statement-line-requires c κs =
     let s = c .before .before .before .before in
-    (starts-in s, s .pre .2 .variables, s .pre .3, s .pre .4)
+    (starts-in s, s .pre .2 .variables, s .pre .5, s .pre .3, s .pre .4)
 
 enum-known-r : tie.Need-enum-known-r
 enum-known-r c = search needs
@@ -50,7 +50,7 @@ returns : tie.Need-returns
 returns c =
     let r = c .before .before .before .statement-line .ensures in
     let s = c .before .before .before .before .before .before .before .before in
-    (λ next. ap (addLine (held s)) (rw (c .before .r .given .1) at (r .0 (held s) next refl (count s) (s .pre .5))), r .3, r .4, tt, λ f. tt)
+    (λ next. ap (addLine (held s)) (rw (c .before .r .given .1) at (r .0 (held s) next refl (count s))), r .3, r .4, tt, (λ f. tt), tt)
 
 returns-2 : tie.Need-returns-2
 returns-2 c =
@@ -58,7 +58,7 @@ returns-2 c =
     let s = c .before .before .before .before .before .before .before in
     let g = c .enum-told .given .1 in
     let fits = rw g at (r .2) in
-    (λ next. ap accepted (line-added (s .args .file .now) (s .args .variables .now) _ _ _ _ (s .args .p) (r .1)) ∙ ap (addLine (held s)) (rw g at (r .0 (held s) next refl (count s) (s .pre .5))), r .3, r .4, fits .0, line-fits (s .args .file .now) (s .args .variables .now) _ _ _ _ (s .args .p) (r .1) (fits .1))
+    (λ next. ap accepted (line-added (s .args .file .now) (s .args .variables .now) _ _ _ _ (s .args .p) (r .1)) ∙ ap (addLine (held s)) (rw g at (r .0 (held s) next refl (count s))), r .3, r .4, fits .0, line-fits (s .args .file .now) (s .args .variables .now) _ _ _ _ (s .args .p) (r .1) (fits .1), s .pre .5)
 
 pub read-statement-spec : {M : Type 1} → statement M
 read-statement-spec =

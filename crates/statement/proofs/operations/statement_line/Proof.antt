@@ -17,10 +17,10 @@ use Rattle.statement.proofs.operations.statement_line.Statement.{statem
 use Rattle.statement.proofs.operations.statement_line.Tie as tie
 
 abbrev Inv-loop : tie.InvT-loop
-Inv-loop file variables guesses n line at heads₀ bodies₀ m p₀ slot₀ heads bodies p slot = ReadUpTo line (variablesIn file variables n) at m p₀ slot₀ heads₀ bodies₀ heads bodies p slot
+Inv-loop file variables n line at heads₀ bodies₀ m p₀ slot₀ heads bodies p slot = ReadUpTo line (variablesIn file variables n) at m p₀ slot₀ heads₀ bodies₀ heads bodies p slot
 
 abbrev μ-loop : tie.MeasureT-loop
-μ-loop file variables guesses n line at heads₀ bodies₀ m p₀ slot₀ heads bodies p slot = 4 - slot
+μ-loop file variables n line at heads₀ bodies₀ m p₀ slot₀ heads bodies p slot = 4 - slot
 
 -- the line is cleared, and nothing of it is read, where the loop starts
 starts : (c : tie.At-loop Inv-loop μ-loop) (f : File) (next : ℕ) → let s = c .before .before .before .before .before .before .before in let l = lineAt (s .args .line .now) (s .args .at) next in length (f .lines) ≡ s .args .m → leftToRead f l (c .before .first-slot .result) 3 (s .args .at) (lineIn (c .before .before .clear-operands .last .0) (s .args .bodies .now) (s .args .m)) (tokensFrom true (s .args .at + 1) (drop (s .args .at + 1) (s .args .line .now))) ≡ readStatement (s .args .form) f l
@@ -28,7 +28,7 @@ starts c f next q =
     let e = c .before .before .clear-operands .ensures .1 in
     let room = c .before .before .before .before .if1 .left in
     let s = c .before .before .before .before .before .before .before in
-    rw (c .before .first-slot .ensures) (statement-starts (s .args .form) f (s .args .line .now) (s .args .at) next (s .args .m) 3 (s .args .at) _ q room (rw (e, line-cleared (s .args .heads .now) (s .args .bodies .now) (s .args .m) (s .pre .2) room)))
+    rw (c .before .first-slot .ensures) (statement-starts (s .args .form) f (s .args .line .now) (s .args .at) next (s .args .m) 3 (s .args .at) _ q room (rw (e, line-cleared (s .args .heads .now) (s .args .bodies .now) (s .args .m) (s .pre .3) room)))
 
 cleared-kept : (c : tie.At-loop Inv-loop μ-loop) → let s = c .before .before .before .before .before .before .before in LinesKept (s .args .heads .now) (s .args .bodies .now) (c .before .before .clear-operands .last .0) (s .args .bodies .now) (s .args .m)
 cleared-kept c = let s = c .before .before .before .before .before .before .before in rw (c .before .before .clear-operands .ensures .1) (kept-cleared (s .args .heads .now) (s .args .bodies .now) (s .args .m))
@@ -39,13 +39,13 @@ refusal-requires c κs = search needs
 returns : tie.Need-returns Inv-loop μ-loop
 returns c =
     let s = c .before .before .before .before in
-    (λ f next v q d. rw (c .refusal .ensures) (statement-full (s .args .form) f (s .args .line .now) (s .args .at) next _ q (c .before .if1 .taken)), kept-same _ _ _, tt, s .pre .2, s .pre .3)
+    (λ f next v q. rw (c .refusal .ensures) (statement-full (s .args .form) f (s .args .line .now) (s .args .at) next _ q (c .before .if1 .taken)), kept-same _ _ _, tt, s .pre .3, s .pre .4)
 
 clear-operands-requires : tie.Need-clear-operands-requires Inv-loop μ-loop
 clear-operands-requires c κs = search needs
 
-add-t19 : tie.Need-add-t19 Inv-loop μ-loop
-add-t19 c = search needs
+add-t18 : tie.Need-add-t18 Inv-loop μ-loop
+add-t18 c = search needs
 
 first-slot-requires : tie.Need-first-slot-requires Inv-loop μ-loop
 first-slot-requires c κs = search needs
@@ -62,18 +62,18 @@ loop-holds c =
       in-line = record { at = omega arith; least = omega arith; most = omega arith };
       in-slots = omega (arith, c .first-slot .ensures, first-most (s .args .form));
       sized-heads = e .0;
-      sized-bodies = s .pre .3;
+      sized-bodies = s .pre .4;
       kept = kept-same _ _ _;
-      fits = rw (e .1) (fit-cleared heads bodies m (s .pre .2) room _);
-      blank = λ h. rw (e .1, line-cleared heads bodies m (s .pre .2) room);
-      left = λ f next v d. refl;
+      fits = rw (e .1) (fit-cleared heads bodies m (s .pre .3) room _);
+      blank = λ h. rw (e .1, line-cleared heads bodies m (s .pre .3) room);
+      left = λ f next v. refl;
     }
 
 place-part-requires : tie.Need-place-part-requires Inv-loop μ-loop
 place-part-requires c κs =
     let l = c .before .before .before .before in
     let s = l .before .before .before .before .before .before .before in
-    (s .pre .1, l .loop .inv .in-line, c .before .before .if2 .taken, l .loop .inv .sized-heads, l .loop .inv .sized-bodies, l .before .before .before .before .if1 .left)
+    (s .pre .1, s .pre .2, l .loop .inv .in-line, c .before .before .if2 .taken, l .loop .inv .sized-heads, l .loop .inv .sized-bodies, l .before .before .before .before .if1 .left)
 
 enum-known-r : tie.Need-enum-known-r Inv-loop μ-loop
 enum-known-r c = search needs
@@ -84,7 +84,7 @@ returns-2 c =
     let l = c .before .before .before .before .before .before .before .before in
     let i = l .loop .inv in
     let s = l .before .before .before .before .before .before .before in
-    (λ f next v q d. rw (c .before .r .given .1) at (r .0 f (s .args .at) next v (omega arith) d (i .blank)) ∙ i .left f next v d ∙ starts l f next q, kept-on (cleared-kept l) (kept-on (i .kept) (r .1)), tt, r .4, r .5)
+    (λ f next v q. rw (c .before .r .given .1) at (r .0 f (s .args .at) next v (omega arith) (i .blank)) ∙ i .left f next v ∙ starts l f next q, kept-on (cleared-kept l) (kept-on (i .kept) (r .1)), tt, r .4, r .5)
 
 enum-known-q : tie.Need-enum-known-q Inv-loop μ-loop
 enum-known-q c = search needs
@@ -110,7 +110,7 @@ loop-again c =
       kept = kept-on (i .kept) (r .1);
       fits = r .2 (i .fits);
       blank = r .3 (i .blank);
-      left = λ f next v d. rw (c .before .q .given .1) at (r .0 f (s .args .at) next v (omega arith) d (i .blank)) ∙ i .left f next v d;
+      left = λ f next v. rw (c .before .q .given .1) at (r .0 f (s .args .at) next v (omega arith) (i .blank)) ∙ i .left f next v;
     }
 
 finish-requires : tie.Need-finish-requires Inv-loop μ-loop
@@ -129,7 +129,7 @@ returns-3 c =
     let a = i .in-line .least in
     let b = i .in-slots in
     let e : l .loop .slot ≡ p .last + 1 = omega arith in
-    (λ f next v q d. c .finish .ensures _ (i .fits) ∙ left-done f _ (p .last) (p .operator) _ _ (l .loop .slot) (omega arith) e _ v ∙ i .left f next v d ∙ starts l f next q, kept-on (cleared-kept l) (i .kept), fits-any _ _ _ _ (c .finish .result) (l .before .before .before .before .if1 .left) (i .fits), i .sized-heads, i .sized-bodies)
+    (λ f next v q. c .finish .ensures _ (i .fits) ∙ left-done f _ (p .last) (p .operator) _ _ (l .loop .slot) (omega arith) e _ v ∙ i .left f next v ∙ starts l f next q, kept-on (cleared-kept l) (i .kept), fits-any _ _ _ _ (c .finish .result) (l .before .before .before .before .if1 .left) (i .fits), i .sized-heads, i .sized-bodies)
 
 pub statement-line-spec : {M : Type 1} → statement M
 statement-line-spec =
@@ -140,7 +140,7 @@ statement-line-spec =
     refusal-requires
     returns
     clear-operands-requires
-    add-t19
+    add-t18
     first-slot-requires
     loop-holds
     place-part-requires

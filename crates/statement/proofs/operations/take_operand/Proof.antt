@@ -30,7 +30,7 @@ returns : tie.Need-returns
 returns c =
     let p = c .before .before in
     let s = p .before .before .before in
-    (λ start next h d. rw (c .refusal .ensures, c .before .if1 .taken) (operand-missing _ (s .args .line .now) start next _ h (tokens-done (s .args .line .now) (s .args .i) (p .spaces .result) (p .spaces .ensures) (c .before .if1 .taken))), tt, tt)
+    (λ start next h. rw (c .refusal .ensures, c .before .if1 .taken) (operand-missing _ (s .args .line .now) start next _ h (tokens-done (s .args .line .now) (s .args .i) (p .spaces .result) (p .spaces .ensures) (c .before .if1 .taken))), tt, tt)
 
 shared-slice-read-is-letter : tie.Need-shared-slice-read-is-letter
 shared-slice-read-is-letter c = starts (c .before)
@@ -41,7 +41,7 @@ is-letter-requires c κs = search needs
 named-requires : tie.Need-named-requires
 named-requires c κs =
     let e = c .before .before .before in
-    (starts e, e .before .before .before .before .pre .1, sym (c .before .is-letter .ensures) ∙ c .if2 .taken)
+    (starts e, e .before .before .before .before .pre .1, sym (c .before .is-letter .ensures) ∙ c .if2 .taken, e .before .before .before .before .pre .2)
 
 constant-requires : tie.Need-constant-requires
 constant-requires c κs = bounds (c .before .before .before .before)
@@ -50,13 +50,13 @@ returns-2 : tie.Need-returns-2
 returns-2 c =
     let e = c .before .before .before .before in
     let s = e .before .before .before .before in
-    (λ start next h d. c .named .ensures .0 d ∙ next-taken _ (s .args .line .now) (s .args .i) (e .before .spaces .result) (e .before .spaces .ensures) (starts e) _, c .named .ensures .1, c .named .ensures .2)
+    (λ start next h. c .named .ensures .0 ∙ next-taken _ (s .args .line .now) (s .args .i) (e .before .spaces .result) (e .before .spaces .ensures) (starts e) _, c .named .ensures .1, c .named .ensures .2)
 
 returns-3 : tie.Need-returns-3
 returns-3 c =
     let e = c .before .before .before .before in
     let s = e .before .before .before .before in
-    (λ start next h d. c .constant .ensures .0 ∙ next-constant _ (s .args .line .now) (s .args .i) (e .before .spaces .result) (e .before .spaces .ensures) (starts e) _ (sym (c .before .before .is-letter .ensures) ∙ c .before .if2 .left), c .constant .ensures .1, c .constant .ensures .2 _)
+    (λ start next h. c .constant .ensures .0 ∙ next-constant _ (s .args .line .now) (s .args .i) (e .before .spaces .result) (e .before .spaces .ensures) (starts e) _ (sym (c .before .before .is-letter .ensures) ∙ c .before .if2 .left), c .constant .ensures .1, c .constant .ensures .2 _)
 
 pub take-operand-spec : {M : Type 1} → statement M
 take-operand-spec =

@@ -1,69 +1,108 @@
--- `find` meets its contract: a guess that has the name is the variable of that name.
-use Prim.Native.Nat.{_-_}
-use mathlib.Core.Path.{sym, _∙_}
+use mathlib.Core.Path.{_≡_, sym, _∙_}
+use Prim.Native.Nat.{_-_, _<_}
 use native.Mathlib.Omega.{arith}
-use lib.ListN.{length}
-use Rattle.store.proofs.LookupLaws.{named-guess}
+use lib.ListN.{drop}
 use borrow.Author.Needs.{needs}
+use Rattle.store.specs.Hash.{bucketOf}
+use Rattle.store.specs.Names.{bucketIn, firstIn, nextIn}
+use Rattle.store.proofs.ChainLaws.{Walk, walk-first, walk-less, walk-next}
+use Rattle.store.proofs.SearchLaws.{has, has-part, search-found, search-ended}
 use Rattle.store.proofs.names.find.Statement.{statement}
 use Rattle.store.proofs.names.find.Tie as tie
 
-sub-end : tie.Need-sub-end
-sub-end c = search needs
+abbrev Inv-loop : tie.InvT-loop
+Inv-loop file variables n text at hash b entry₀ entry = Walk (bucketIn file variables) n (has file variables (drop at text)) (bucketOf hash) entry
 
-shared-slice-read-key : tie.Need-shared-slice-read-key
-shared-slice-read-key c = search needs
+abbrev μ-loop : tie.MeasureT-loop
+μ-loop file variables n text at hash b entry₀ entry = entry
 
-cast-key : tie.Need-cast-key
-cast-key c = omega (arith, c .shared-slice-known3 .given (length (c .before .before .before .args .text .now) - 1))
+-- whether the variable has the name
+tested : (c : tie.After-same-at Inv-loop μ-loop) → let l = c .before .before .before .before .before in let a = l .before .before .before .before .before .before .args in has (a .file .now) (a .variables .now) (drop (a .at) (a .text .now)) (l .loop .entry - 1) ≡ c .same-at .result
+tested c =
+    let l = c .before .before .before .before .before in
+    let a = l .before .before .before .before .before .before .args in
+    sym (rw (c .before .name-length .ensures, c .before .before .name-start .ensures) at (c .same-at .ensures) ∙ has-part (a .file .now) (a .variables .now) (drop (a .at) (a .text .now)) (l .loop .entry - 1))
 
-mul-guess : tie.Need-mul-guess
-mul-guess c = omega (arith, c .shared-slice-known3 .given (length (c .before .before .before .args .text .now) - 1))
+bucket-requires : tie.Need-bucket-requires Inv-loop μ-loop
+bucket-requires c κs = search needs
 
-element-copy-out-guess : tie.Need-element-copy-out-guess
-element-copy-out-guess c = omega (arith, c .shared-slice-known3 .given (length (c .before .before .before .args .text .now) - 1))
+mul-first-entry : tie.Need-mul-first-entry Inv-loop μ-loop
+mul-first-entry c = omega (arith, c .bucket .ensures)
 
-mul-word : tie.Need-mul-word
-mul-word c = search needs
+element-copy-out-first-entry : tie.Need-element-copy-out-first-entry Inv-loop μ-loop
+element-copy-out-first-entry c = omega (arith, c .bucket .ensures)
 
-element-copy-out-word : tie.Need-element-copy-out-word
-element-copy-out-word c = search needs
+first-entry-requires : tie.Need-first-entry-requires Inv-loop μ-loop
+first-entry-requires c κs = search needs
 
-name-start-requires : tie.Need-name-start-requires
+loop-holds : tie.Need-loop-holds Inv-loop μ-loop
+loop-holds c = let s = c .before .before .before .before .before in
+    let b = c .before .before .bucket .ensures in
+    rw (c .first-entry .ensures .0, b .0) (walk-first _ _ _ _ (s .pre .2 .chained) (has (s .args .file .now) (s .args .variables .now) (drop (s .args .at) (s .args .text .now))) _ (rw (b .0) at (b .1)))
+
+sub-v : tie.Need-sub-v Inv-loop μ-loop
+sub-v c = search needs
+
+mul-word : tie.Need-mul-word Inv-loop μ-loop
+mul-word c = omega (arith, c .before .loop .inv .bound)
+
+element-copy-out-word : tie.Need-element-copy-out-word Inv-loop μ-loop
+element-copy-out-word c = omega (arith, c .before .loop .inv .bound)
+
+name-start-requires : tie.Need-name-start-requires Inv-loop μ-loop
 name-start-requires c κs = search needs
 
-name-length-requires : tie.Need-name-length-requires
+name-length-requires : tie.Need-name-length-requires Inv-loop μ-loop
 name-length-requires c κs = search needs
 
-same-part-requires : tie.Need-same-part-requires
-same-part-requires c κs = search needs
+same-at-requires : tie.Need-same-at-requires Inv-loop μ-loop
+same-at-requires c κs = let s = c .before .before .before .before .before .before .before .before .before .before in
+    let l = c .before .before .before .before in
+    (rw (c .name-length .ensures, c .before .name-start .ensures) (s .pre .2 .within (l .loop .entry - 1) (omega (arith, l .loop .inv .bound))), s .pre .0)
 
-returns : tie.Need-returns
-returns c =
-    let p = c .before in
-    let g = p .before .before .before in
-    λ u. sym (named-guess _ _ _ _ _ u (g .before .if1 .taken) (sym (rw (p .before .name-length .ensures, p .before .before .name-start .ensures) at (p .same-part .ensures)) ∙ c .if2 .taken))
+returns : tie.Need-returns Inv-loop μ-loop
+returns c = let s = c .before .before .before .before .before .before .before .before .before .before .before .before in
+    let l = c .before .before .before .before .before .before in
+    search-found _ _ _ (s .pre .2) _ (l .loop .entry - 1) (omega (arith, l .loop .inv .bound)) (tested (c .before) ∙ c .if1 .taken)
 
-lookup-requires : tie.Need-lookup-requires
-lookup-requires c κs = search needs
+next-entry-requires : tie.Need-next-entry-requires Inv-loop μ-loop
+next-entry-requires c κs = search needs
 
-returns-2 : tie.Need-returns-2
-returns-2 c = λ u. c .lookup .ensures
+loop-less : tie.Need-loop-less Inv-loop μ-loop
+loop-less c = let s = c .before .before .before .before .before .before .before .before .before .before .before .before .before in
+    let l = c .before .before .before .before .before .before .before in
+    rw (c .next-entry .ensures) (walk-less _ _ _ _ (s .pre .2 .chained) (has (s .args .file .now) (s .args .variables .now) (drop (s .args .at) (s .args .text .now))) _ (l .loop .entry) (l .loop .inv) (c .before .before .before .before .before .before .loop-test .taken))
+
+loop-again : tie.Need-loop-again Inv-loop μ-loop
+loop-again c = let s = c .before .before .before .before .before .before .before .before .before .before .before .before .before in
+    let l = c .before .before .before .before .before .before .before in
+    rw (c .next-entry .ensures) (walk-next _ _ _ _ (s .pre .2 .chained) (has (s .args .file .now) (s .args .variables .now) (drop (s .args .at) (s .args .text .now))) _ (l .loop .entry) (l .loop .inv) (c .before .before .before .before .before .before .loop-test .taken) (tested (c .before .before) ∙ c .before .if1 .left))
+
+returns-2 : tie.Need-returns-2 Inv-loop μ-loop
+returns-2 c = let s = c .before .before .before .before .before .before .before in
+    let l = c .before in
+    let e : l .loop .entry ≡ 0 = omega arith in
+    search-ended _ _ _ (s .pre .2) _ _ (rw (← s .pre .3)) (rw e at (l .loop .inv))
 
 pub find-spec : {M : Type 1} → statement M
 find-spec =
     tie.close
     (tie.spec
-    sub-end
-    shared-slice-read-key
-    cast-key
-    mul-guess
-    element-copy-out-guess
+    Inv-loop
+    μ-loop
+    bucket-requires
+    mul-first-entry
+    element-copy-out-first-entry
+    first-entry-requires
+    loop-holds
+    sub-v
     mul-word
     element-copy-out-word
     name-start-requires
     name-length-requires
-    same-part-requires
+    same-at-requires
     returns
-    lookup-requires
+    next-entry-requires
+    loop-less
+    loop-again
     returns-2)

@@ -9,8 +9,10 @@ use Rattle.refusal.specs.Result.{accepted}
 use Rattle.store.specs.declared.Progress.{Progress}
 use Rattle.constraint.specs.File.{File}
 use Rattle.constraint.specs.Read.{readFile}
+use Rattle.store.specs.Names.{Searchable}
 use Rattle.store.specs.Tables.{Store, storeOf}
 use Rattle.store.specs.Progress.{storedFile, InTables, HeadsInUseFit}
+use Rattle.store.proofs.SearchLaws.{searchable-none}
 use Rattle.answer.specs.Read.{readAnswer}
 use Rattle.tables.specs.Check.{checked}
 use Rattle.tables.proofs.CheckLaws.{refused-constraint, refused-answer, values-short, verdicts-short, checked-row, variables-held, lines-held, answer-fits-lines, counts-lines, tables-filled}
@@ -43,6 +45,9 @@ few c = rw (c .p .given .1) at (c .before .before .read .ensures .2)
 heads-fit : (c : tie.After-p) → HeadsInUseFit (bytes c) (tables c) (progress c)
 heads-fit c = rw (c .p .given .1) at (c .before .before .read .ensures .3)
 
+found : (c : tie.After-p) → Searchable (bytes c) (tables c .variables) (progress c .variables)
+found c = rw (c .p .given .1) at (c .before .before .read .ensures .4)
+
 -- the row that was read
 abbrev read : tie.After-enum-told → tie.After-p
 read c = c .before .before .before .before .before .before
@@ -57,7 +62,7 @@ row-whole : (c : tie.After-enum-told) → progress (read c) .variables ≤ lengt
 row-whole c = let h = few (read c) .variables in let l = c .before .before .read-answer .ensures .1 in omega arith
 
 read-requires : tie.Need-read-requires
-read-requires c κs = search needs
+read-requires c κs = (search needs, searchable-none _)
 
 enum-known-r : tie.Need-enum-known-r
 enum-known-r c = search needs
@@ -66,7 +71,7 @@ enum-known-p : tie.Need-enum-known-p
 enum-known-p c = search needs
 
 read-answer-requires : tie.Need-read-answer-requires
-read-answer-requires c κs = (few (c .before .before .before) .variables, refl)
+read-answer-requires c κs = (few (c .before .before .before) .variables, found (c .before .before .before), refl)
 
 enum-known-r-2 : tie.Need-enum-known-r-2
 enum-known-r-2 c = search needs
