@@ -7,12 +7,12 @@ use mathlib.Core.List.{List, [], _∷_, _++_, append-assoc}
 use mathlib.Core.Option.{Option, none, some}
 use native.Mathlib.Omega.{arith}
 use lib.Dec.{eqb, leb, ltb}
-use lib.ListN.{length, take, drop, length-drop}
+use lib.ListN.{length, getD, take, drop, length-drop}
 use borrow.Author.Tests.{le-leb, lt-leb, eqb-true}
 use Rattle.edition.specs.Edition.{maxNameBytes}
 use Rattle.refusal.specs.Lists.{every}
 use Rattle.refusal.specs.Numbers.{misspelt, numberTooLarge, overLimit, notDeclared, valueDoesNotFit}
-use Rattle.refusal.specs.Result.{accepted, ensure, given, _>>=_, _>>_}
+use Rattle.refusal.specs.Result.{accepted, refused, ensure, given, _>>=_, _>>_}
 use Rattle.refusal.proofs.ListLaws.{first-below}
 use Rattle.text.specs.Bytes.{same, frontOf, isLetter, isDigit, isNameByte}
 use Rattle.text.specs.declared.Class.the-variants.{Solid, NameByte}
@@ -21,9 +21,9 @@ use Rattle.text.specs.declared.Number.the-variants.{Value, TooBig, Misspelt}
 use Rattle.text.specs.Lines.{Token}
 use Rattle.text.specs.Spelling.{isName, isNumeral, decimal, maxDigits, numberBound, upTo, behind}
 use Rattle.text.specs.Scan.{isOf, past, numberRead, tokenFrom}
-use Rattle.text.proofs.FirstByteLaws.{name-solid, not-bytes}
+use Rattle.text.proofs.FirstByteLaws.{name-solid, not-bytes, no-name-part}
 use Rattle.text.proofs.PartLaws.{first-fails, part-front, part-behind, part-bare, part-broken}
-use Rattle.text.proofs.RunLaws.{run-part, scan-bounds, strict-every, strict-split, strict-on, strict-rest}
+use Rattle.text.proofs.RunLaws.{run-part, strict-every, strict-split, strict-on, strict-rest}
 use Rattle.constraint.specs.File.{Variable, widthAt, variableNamed}
 use Rattle.answer.specs.declared.Setting.{Setting}
 use Rattle.answer.specs.declared.Setting.the-variants.{Set, Faulty}
@@ -122,16 +122,14 @@ module _ (xs : List Variable) (t : Token) (stop : ℕ) (name : List ℕ) (e : ev
           rw (no-number (isName name) (settingNamed xs name stop))
           (rw (not-bytes (upTo 61 (name ++ b ∷ s)) (part-broken isNameByte 61 equals-separates name e b s (first-fails isNameByte b s r) c)) at (setting-bytes xs t stop (name ++ b ∷ s) q))
 
--- ---- the setting whose token starts at `start`: the bytes of its name stop at `equals`
-module _ (line : List ℕ) (start equals : ℕ) (h : start ≤ length line) (he : equals ≡ past (isOf NameByte) line start) where
-  pub name-bounds : (start ≤ equals) × (equals ≤ length line)
-  name-bounds = scan-bounds (isOf NameByte) line start equals h he
+-- ---- the setting whose token starts at `start`: without a letter it is misspelt
+pub setting-not : (xs : List Variable) (line : List ℕ) (start : ℕ) → start < length line → isLetter (getD line start 0) ≡ false → refused (inAnswer (tokenFrom line start) misspelt) ≡ settingOf xs (tokenFrom line start)
+setting-not xs line start h a = rw (no-name-part line start h a (code "=")) at (setting-is xs (tokenFrom line start) 0)
 
+-- the bytes of its name stop at `equals`
+module _ (line : List ℕ) (start equals : ℕ) (h : start ≤ length line) (he : equals ≡ past (isOf NameByte) line start) where
   pub setting-stop : past (isOf Solid) line equals ≡ past (isOf Solid) line start
   setting-stop = strict-on (isOf NameByte) (isOf Solid) name-solid line start equals h he
-
-  pub name-pass : every (isOf NameByte) (drop start (take equals line)) ≡ true
-  name-pass = strict-every (isOf NameByte) (isOf Solid) name-solid line start equals h he
 
   name-run : frontOf (isOf NameByte) (drop start line) ≡ drop start (take equals line)
   name-run = run-part (isOf NameByte) line start h ∙ rw he
@@ -142,4 +140,4 @@ module _ (line : List ℕ) (start equals : ℕ) (h : start ≤ length line) (he 
   pub setting-read : (xs : List Variable) (stop : ℕ) (named : Bool) (number : Number) → named ≡ isName (drop start (take equals line)) → number ≡ numberBehindEquals (frontOf (isOf Solid) (drop equals line))
       → settingResult (tokenFrom line start) (settingBy named number (settingNamed xs (drop start (take equals line)) stop)) ≡ settingOf xs (tokenFrom line start)
   unfolding isOf
-  setting-read xs stop named number p q = rw (p, q) (parts-set xs (tokenFrom line start) stop (drop start (take equals line)) name-pass (frontOf (isOf Solid) (drop equals line)) bytes-split (strict-rest (isOf NameByte) (isOf Solid) name-solid line start equals h he))
+  setting-read xs stop named number p q = rw (p, q) (parts-set xs (tokenFrom line start) stop (drop start (take equals line)) (strict-every (isOf NameByte) (isOf Solid) name-solid line start equals h he) (frontOf (isOf Solid) (drop equals line)) bytes-split (strict-rest (isOf NameByte) (isOf Solid) name-solid line start equals h he))

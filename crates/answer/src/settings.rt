@@ -15,7 +15,7 @@ use text::Number;
 use text::numbers::MAX_DIGITS;
 use text::numbers::digits_at;
 use text::numbers::within_digits;
-use text::scan::is_name;
+use text::scan::is_letter;
 use text::scan::spaces;
 use text::scan::token_ends;
 ghost use mathlib.Core.Path.{_≡_};
@@ -107,24 +107,23 @@ fn setting(
     line: &[u8],
     at: usize,
 ) -> Setting
-    requires { ⌜ (at ≤ length (now line)) × (n ≤ maxVariables) × Searchable (now file) (now variables) n ⌝ }
+    requires { ⌜ (at < length (now line)) × (n ≤ maxVariables) × Searchable (now file) (now variables) n ⌝ }
     ensures { λ r. ⌜ (settingResult (tokenFrom (now (line .entry)) at) r ≡ settingOf (variablesIn (now (file .entry)) (now (variables .entry)) n) (tokenFrom (now (line .entry)) at)) × SettingIn n (past (isOf Solid) (now (line .entry)) at) r ⌝ }
 {
+    if !is_letter(line[at]) {
+        return Setting::Faulty(Refusal::MISSPELT);
+    }
     let name = name_at(line, at);
     let equals = name.stop;
-    let text = &line[..equals];
     let value = value_at(line, equals);
     let number = value.number;
-    if is_name(text, at) {
-        match number {
-            Number::Misspelt => Setting::Faulty(Refusal::MISSPELT),
-            Number::TooBig => Setting::Faulty(Refusal::NUMBER_TOO_LARGE),
-            Number::Value(v) => {
-                setting_of(file, variables, n, text, at, name.hash, v, value.stop)
-            }
+    match number {
+        Number::Misspelt => Setting::Faulty(Refusal::MISSPELT),
+        Number::TooBig => Setting::Faulty(Refusal::NUMBER_TOO_LARGE),
+        Number::Value(v) => {
+            let text = &line[..equals];
+            setting_of(file, variables, n, text, at, name.hash, v, value.stop)
         }
-    } else {
-        Setting::Faulty(Refusal::MISSPELT)
     }
 }
 

@@ -1,5 +1,5 @@
 -- Declaring a name, by what the code finds of it. Assumes nothing.
-use Prim.Native.Nat.{ℕ, _+_, _-_, _≤_, _<_}
+use Prim.Native.Nat.{ℕ, _-_, _≤_, _<_}
 use Prim.Native.Char.{code}
 use mathlib.Core.Path.{_≡_, refl, ap, sym, _∙_}
 use mathlib.Core.Bool.{Bool, true, false, cond, not, _&&_}
@@ -7,14 +7,14 @@ use mathlib.Core.List.{List, [], _∷_, _++_, append-assoc}
 use mathlib.Core.Option.{none, some}
 use native.Mathlib.Omega.{arith}
 use lib.Dec.{eqb, leb, ltb}
-use lib.ListN.{length, take, drop, length-drop}
+use lib.ListN.{length, getD, take, drop, length-drop}
 use borrow.Author.Tests.{le-leb, lt-leb, lt-ltb, le-ltb, leb-true, ltb-true, eqb-true}
 use Rattle.edition.specs.declared.Edition.{Edition}
 use Rattle.edition.specs.Edition.{maxVariables, maxNameBytes, maxWidth, isWidth}
 use Rattle.refusal.specs.Numbers.{misspelt, notAWidth, overLimit, nameTaken}
 use Rattle.refusal.specs.Lists.{every, isThere}
-use Rattle.refusal.specs.Result.{accepted, ensure, _>>_}
-use Rattle.refusal.proofs.BoolLaws.{and-true}
+use Rattle.refusal.specs.Result.{accepted, refused, ensure, _>>_}
+use Rattle.refusal.proofs.BoolLaws.{and-true, and-false}
 use Rattle.refusal.proofs.ListLaws.{not-there}
 use Rattle.refusal.proofs.ResultLaws.{never}
 use Rattle.text.specs.declared.Class.the-variants.{Solid, NameByte}
@@ -24,9 +24,10 @@ use Rattle.text.specs.Bytes.{frontOf, isLetter, isDigit, isNameByte}
 use Rattle.text.specs.Lines.{Token}
 use Rattle.text.specs.Spelling.{isName, isType, typeWidth, upTo, behind}
 use Rattle.text.specs.Scan.{isOf, past, typeOf, typeBehindColon}
-use Rattle.text.proofs.RunLaws.{every-of-run, run-part, strict-split, strict-rest}
+use Rattle.text.proofs.RunLaws.{run-part, strict-split, strict-rest}
+use Rattle.text.proofs.SeenLaws.{name-bytes}
 use Rattle.text.proofs.PartLaws.{first-fails, part-front, part-behind, part-bare, part-broken}
-use Rattle.text.proofs.FirstByteLaws.{name-solid, not-bytes}
+use Rattle.text.proofs.FirstByteLaws.{name-solid, name-whole, not-bytes, no-name-part}
 use Rattle.declaration.specs.declared.Declaration.{Declaration}
 use Rattle.declaration.specs.declared.Declaration.the-variants.{Fresh, Faulty}
 use Rattle.constraint.specs.File.{Variable, variableNamed}
@@ -62,63 +63,69 @@ module _ (e : Edition) (xs : List Variable) (text : List ℕ) (start k n : ℕ) 
 
 -- ---- a declaration, by its parts
 -- the tests, whatever they say
-split : (t : Token) (name : List ℕ) (k : ℕ) (named type width small free : Bool) → declarationResult t name (declarationOf named (cond type (cond width (Width k) NoWidth) NoType) (λ k. cond small (cond free (Fresh k) (Faulty nameTaken)) (Faulty overLimit))) ≡ (do
-  ensure (named && type) (inConstraint t misspelt)
+split : (t : Token) (name : List ℕ) (k : ℕ) (type width small free : Bool) → declarationResult t name (declarationOf (cond type (cond width (Width k) NoWidth) NoType) (λ k. cond small (cond free (Fresh k) (Faulty nameTaken)) (Faulty overLimit))) ≡ (do
+  ensure type (inConstraint t misspelt)
   ensure width (inConstraint t notAWidth)
   ensure small (inConstraint t overLimit)
   ensure free (inConstraint t nameTaken)
   accepted (record { name = name; width = k }))
-split t name k false type width small free = refl
-split t name k true false width small free = refl
-split t name k true true false small free = refl
-split t name k true true true false free = refl
-split t name k true true true true false = refl
-split t name k true true true true true = refl
-
--- no type, no declaration
-no-type : (named : Bool) (new : ℕ → Declaration) → declarationOf named NoType new ≡ Faulty misspelt
-no-type false new = refl
-no-type true new = refl
+split t name k false width small free = refl
+split t name k true false small free = refl
+split t name k true true false free = refl
+split t name k true true true false = refl
+split t name k true true true true = refl
 
 colon-no-name : isNameByte 58 ≡ false
 unfolding isNameByte isLetter isDigit
 colon-no-name = refl
 
-module _ (e : Edition) (xs : List Variable) where
-  declare-is : (t : Token) → let name = upTo (code ":") (t .bytes) in declarationResult t name (declarationOf (isName name) (typeOf (behind (code ":") (t .bytes))) (newName e xs name)) ≡ declare e xs t
+module _ (e : Edition) (xs : List Variable) (t : Token) where
+  declare-is : let name = upTo (code ":") (t .bytes) in isName name ≡ true → declarationResult t name (declarationOf (typeOf (behind (code ":") (t .bytes))) (newName e xs name)) ≡ declare e xs t
   unfolding declare typeOf newName
-  declare-is t =
+  declare-is named =
       let name = upTo (code ":") (t .bytes) in
       let type = behind (code ":") (t .bytes) in
-      split t name (typeWidth type) (isName name) (isType type) (isWidth (typeWidth type)) (leb (length name) maxNameBytes && ltb (length xs) maxVariables) (not (isReserved e name) && not (isThere (variableNamed name xs)))
+      rw named (split t name (typeWidth type) (isType type) (isWidth (typeWidth type)) (leb (length name) maxNameBytes && ltb (length xs) maxVariables) (not (isReserved e name) && not (isThere (variableNamed name xs))))
 
-  whole : (t : Token) (s : List ℕ) → t .bytes ≡ s → declarationResult t (upTo 58 s) (declarationOf (isName (upTo 58 s)) (typeOf (behind 58 s)) (newName e xs (upTo 58 s))) ≡ declare e xs t
-  whole t s q = rw (← q) (declare-is t)
+  -- no name, or no type
+  misspelt-name : isName (upTo (code ":") (t .bytes)) ≡ false → refused (inConstraint t misspelt) ≡ declare e xs t
+  unfolding declare
+  misspelt-name f = rw f
 
-  -- a token of bytes of a name and what stands behind them, which starts with none
-  parts-declared : (t : Token) (name rest : List ℕ) → every isNameByte name ≡ true → t .bytes ≡ name ++ rest → frontOf isNameByte rest ≡ [] → declarationResult t name (declarationOf (isName name) (typeBehindColon rest) (newName e xs name)) ≡ declare e xs t
-  unfolding typeBehindColon typeOf isType
-  parts-declared t name [] h q r =
-      rw (no-type (isName name) (newName e xs name))
-      (rw (part-bare isNameByte 58 colon-no-name name h, no-type (isName (upTo 58 (name ++ []))) (newName e xs (upTo 58 (name ++ [])))) at (whole t (name ++ []) q))
-  parts-declared t name (b ∷ s) h q r = go (eqb b 58) refl
+  misspelt-type : behind (code ":") (t .bytes) ≡ [] → refused (inConstraint t misspelt) ≡ declare e xs t
+  unfolding declare isType
+  misspelt-type f = rw (f, and-false (isName (upTo (code ":") (t .bytes))))
+
+  -- a token of a name and what stands behind it, which starts with no byte of a name
+  parts-declared : (name rest : List ℕ) → isName name ≡ true → t .bytes ≡ name ++ rest → frontOf isNameByte rest ≡ [] → declarationResult t name (declarationOf (typeBehindColon rest) (newName e xs name)) ≡ declare e xs t
+  unfolding typeBehindColon
+  parts-declared name [] named q r = misspelt-type (ap (behind 58) q ∙ part-bare isNameByte 58 colon-no-name name (name-bytes name named))
+  parts-declared name (b ∷ s) named q r = go (eqb b 58) refl
     where
-      go : (c : Bool) → eqb b 58 ≡ c → declarationResult t name (declarationOf (isName name) (cond c (typeOf s) NoType) (newName e xs name)) ≡ declare e xs t
+      bytes : every isNameByte name ≡ true
+      bytes = name-bytes name named
+
+      go : (c : Bool) → eqb b 58 ≡ c → declarationResult t name (declarationOf (cond c (typeOf s) NoType) (newName e xs name)) ≡ declare e xs t
       go true c =
           let z : t .bytes ≡ name ++ (58 ∷ []) ++ s = q ∙ ap (λ (x : ℕ). name ++ x ∷ s) (eqb-true b 58 c) ∙ sym (append-assoc name (58 ∷ []) s) in
-          rw (part-front isNameByte 58 colon-no-name name h s, part-behind isNameByte 58 colon-no-name name h s) at (whole t (name ++ (58 ∷ []) ++ s) z)
-      go false c =
-          rw (no-type (isName name) (newName e xs name))
-          (rw (not-bytes (upTo 58 (name ++ b ∷ s)) (part-broken isNameByte 58 colon-no-name name h b s (first-fails isNameByte b s r) c)) at (whole t (name ++ b ∷ s) q))
+          let front : upTo 58 (t .bytes) ≡ name = ap (upTo 58) z ∙ part-front isNameByte 58 colon-no-name name bytes s in
+          let back : behind 58 (t .bytes) ≡ s = ap (behind 58) z ∙ part-behind isNameByte 58 colon-no-name name bytes s in
+          rw (front, back) at (declare-is (ap isName front ∙ named))
+      go false c = misspelt-name (ap (λ s. isName (upTo 58 s)) q ∙ not-bytes (upTo 58 (name ++ b ∷ s)) (part-broken isNameByte 58 colon-no-name name bytes b s (first-fails isNameByte b s r) c))
 
-  -- the token that starts at a place of a line, where bytes of a name reach to `stop`
-  module _ (line : List ℕ) (start stop : ℕ) (h : start ≤ length line) (hs : stop ≡ past (isOf NameByte) line start) where
-    pub declared-by : (type : TypeRead) → type ≡ typeBehindColon (frontOf (isOf Solid) (drop stop line)) → let name = drop start (take stop line) in declarationResult (tokenFrom line start) name (declarationOf (isName name) type (newName e xs name)) ≡ declare e xs (tokenFrom line start)
+-- the token that starts at a place of a line
+module _ (e : Edition) (xs : List Variable) (line : List ℕ) (start : ℕ) (h : start < length line) where
+  pub declared-not : isLetter (getD line start 0) ≡ false → refused (inConstraint (tokenFrom line start) misspelt) ≡ declare e xs (tokenFrom line start)
+  declared-not a = misspelt-name e xs (tokenFrom line start) (no-name-part line start h a (code ":"))
+
+  -- a name reaches to `stop`
+  module _ (a : isLetter (getD line start 0) ≡ true) (stop : ℕ) (hs : stop ≡ past (isOf NameByte) line start) where
+    pub declared-by : (type : TypeRead) → type ≡ typeBehindColon (frontOf (isOf Solid) (drop stop line)) → let name = drop start (take stop line) in declarationResult (tokenFrom line start) name (declarationOf type (newName e xs name)) ≡ declare e xs (tokenFrom line start)
     unfolding isOf
     declared-by type k =
-        let part = sym (run-part (isOf NameByte) line start h ∙ ap (λ n. drop start (take n line)) (sym hs)) in
-        rw (k, part)
-        (parts-declared (tokenFrom line start) (frontOf (isOf NameByte) (drop start line)) (frontOf (isOf Solid) (drop stop line)) (every-of-run (isOf NameByte) (drop start line)) (sym (run-part (isOf Solid) line start h) ∙ strict-split (isOf NameByte) (isOf Solid) name-solid line start stop h hs) (strict-rest (isOf NameByte) (isOf Solid) name-solid line start stop h hs))
+        let l : start ≤ length line = omega arith in
+        let part = run-part (isOf NameByte) line start l ∙ ap (λ n. drop start (take n line)) (sym hs) in
+        rw k (parts-declared e xs (tokenFrom line start) (drop start (take stop line)) (frontOf (isOf Solid) (drop stop line)) (name-whole line start h a stop hs) (sym (run-part (isOf Solid) line start l) ∙ strict-split (isOf NameByte) (isOf Solid) name-solid line start stop l hs ∙ ap (λ s. s ++ frontOf (isOf Solid) (drop stop line)) part) (strict-rest (isOf NameByte) (isOf Solid) name-solid line start stop l hs))
 
 -- ---- a declaration that is fresh
 fresh-other : {A : Type 0} {k number : ℕ} → Fresh k ≡ Faulty number → A
@@ -147,11 +154,10 @@ module _ (e : Edition) (xs : List Variable) (name : List ℕ) (k : ℕ) where
       go true false s f q = fresh-other q
       go false free s f q = fresh-other q
 
-  pub fresh-is : (named : Bool) (type : TypeRead) → Fresh k ≡ declarationOf named type (newName e xs name) → FreshName xs name type k
-  fresh-is false type q = fresh-other q
-  fresh-is true NoType q = fresh-other q
-  fresh-is true NoWidth q = fresh-other q
-  fresh-is true (Width j) q = new-is-fresh j q
+  pub fresh-is : (type : TypeRead) → Fresh k ≡ declarationOf type (newName e xs name) → FreshName xs name type k
+  fresh-is NoType q = fresh-other q
+  fresh-is NoWidth q = fresh-other q
+  fresh-is (Width j) q = new-is-fresh j q
 
 -- a width that is read is within the limit
 abbrev WidthFits : TypeRead → Type 0

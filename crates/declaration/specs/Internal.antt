@@ -54,12 +54,11 @@ newName e xs name k =
     let free = cond (not (isReserved e name) && not (isThere (variableNamed name xs))) (Fresh k) (Faulty nameTaken) in
     cond (leb (length name) maxNameBytes && ltb (length xs) maxVariables) free (Faulty overLimit)
 
--- a declaration by whether its name is spelt right, its type and what is said of the name with a width
-abbrev pub declarationOf : Bool → TypeRead → (ℕ → Declaration) → Declaration
-declarationOf false type new = Faulty misspelt
-declarationOf true NoType new = Faulty misspelt
-declarationOf true NoWidth new = Faulty notAWidth
-declarationOf true (Width k) new = new k
+-- a declaration by its type, and by what is said of its name with a width
+abbrev pub declarationOf : TypeRead → (ℕ → Declaration) → Declaration
+declarationOf NoType new = Faulty misspelt
+declarationOf NoWidth new = Faulty notAWidth
+declarationOf (Width k) new = new k
 
 -- the variables with the one that a token declares
 abbrev pub declaredBehind : Edition → List Variable → Token → Result (List Variable)

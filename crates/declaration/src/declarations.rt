@@ -11,6 +11,7 @@ use store::Progress;
 use store::hashing::name_at;
 use store::names::add;
 use text::numbers::type_at;
+use text::scan::is_letter;
 use text::scan::spaces;
 ghost use mathlib.Core.Path.{_≡_};
 ghost use mathlib.Core.Bool.{true};
@@ -40,6 +41,9 @@ fn declare_next(
     ensures { λ r. ⌜ ((e : TheEdition) → putResult (variablesIn (now (file .entry)) (now (variables .exit)) (n + 1)) r ≡ declaredBehind e (variablesIn (now (file .entry)) (now (variables .entry)) n) (tokenFrom (take stop (now (file .entry))) at)) × PutHolds (now (file .entry)) stop at (now (variables .exit)) n r × (length (now (variables .exit)) ≡ maxVariables) ⌝ }
 {
     let line = &file[..stop];
+    if !is_letter(line[at]) {
+        return Put::NotPut(refusal(Refusal::MISSPELT, at));
+    }
     let name = name_at(line, at);
     let colon = name.stop;
     let hash = name.hash;

@@ -6,17 +6,11 @@ use spelling::is_reserved;
 use store::Found;
 use store::names::find;
 use text::TypeRead;
-use text::scan::is_name;
 ghost use mathlib.Core.Path.{_≡_};
-ghost use mathlib.Core.Bool.{true};
 ghost use Prim.Native.Nat.{_≤_};
 ghost use lib.ListN.{length, drop};
 ghost use Rattle.edition.specs.declared.Edition.{Edition as TheEdition};
 ghost use Rattle.edition.specs.Edition.{maxVariables};
-ghost use Rattle.refusal.specs.Lists.{every};
-ghost use Rattle.text.specs.declared.Class.the-variants.{NameByte};
-ghost use Rattle.text.specs.Scan.{isOf};
-ghost use Rattle.text.specs.Spelling.{isName};
 ghost use Rattle.store.specs.Hash.{hashOf};
 ghost use Rattle.store.specs.Names.{Searchable};
 ghost use Rattle.store.specs.Tables.{variablesIn};
@@ -50,7 +44,7 @@ fn new_name(
     }
 }
 
-// The declaration of the bytes of a name from `at` to the end of the text, with that hash, and of the type behind them.
+// The declaration of a name, from `at` to the end of the text, with that hash, and of the type behind it.
 pub(crate) fn declare(
     file: &[u8],
     variables: &[u64; Edition::VARIABLES],
@@ -60,16 +54,12 @@ pub(crate) fn declare(
     hash: u32,
     kind: TypeRead,
 ) -> Declaration
-    requires { ⌜ (at ≤ length (now text)) × (n ≤ maxVariables) × Searchable (now file) (now variables) n × (hash ≡ hashOf (drop at (now text))) × (every (isOf NameByte) (drop at (now text)) ≡ true) ⌝ }
-    ensures { λ r. ⌜ ((e : TheEdition) → r ≡ declarationOf (isName (drop at (now (text .entry)))) kind (newName e (variablesIn (now (file .entry)) (now (variables .entry)) n) (drop at (now (text .entry))))) ⌝ }
+    requires { ⌜ (at ≤ length (now text)) × (n ≤ maxVariables) × Searchable (now file) (now variables) n × (hash ≡ hashOf (drop at (now text))) ⌝ }
+    ensures { λ r. ⌜ ((e : TheEdition) → r ≡ declarationOf kind (newName e (variablesIn (now (file .entry)) (now (variables .entry)) n) (drop at (now (text .entry))))) ⌝ }
 {
-    if is_name(text, at) {
-        match kind {
-            TypeRead::NoType => Declaration::Faulty(Refusal::MISSPELT),
-            TypeRead::NoWidth => Declaration::Faulty(Refusal::NOT_A_WIDTH),
-            TypeRead::Width(k) => new_name(file, variables, n, text, at, hash, k),
-        }
-    } else {
-        Declaration::Faulty(Refusal::MISSPELT)
+    match kind {
+        TypeRead::NoType => Declaration::Faulty(Refusal::MISSPELT),
+        TypeRead::NoWidth => Declaration::Faulty(Refusal::NOT_A_WIDTH),
+        TypeRead::Width(k) => new_name(file, variables, n, text, at, hash, k),
     }
 }

@@ -3,8 +3,10 @@ use super::Name;
 use edition::Edition;
 use text::scan::is_name_byte;
 ghost use mathlib.Core.Path.{_≡_};
+ghost use mathlib.Core.Bool.{true};
 ghost use Prim.Native.Nat.{_≤_, _<_};
-ghost use lib.ListN.{length, take, drop};
+ghost use lib.ListN.{length, getD, take, drop};
+ghost use Rattle.text.specs.Bytes.{isLetter};
 ghost use Rattle.text.specs.declared.Class.the-variants.{NameByte};
 ghost use Rattle.text.specs.Scan.{isOf, past};
 ghost use Rattle.store.specs.Hash.{hashNext, hashOf, buckets, bucketOf};
@@ -26,13 +28,13 @@ fn hash_next(h: u32, b: u8) -> u32
     ((h as u64 * HASH_FACTOR + b as u64) % HASH_BOUND) as u32
 }
 
-// The bytes of a name from `at` on.
+// The name whose first letter stands at `at`.
 pub fn name_at(text: &[u8], at: usize) -> Name
-    requires { ⌜ at ≤ length (now text) ⌝ }
+    requires { ⌜ (at < length (now text)) × (isLetter (getD (now text) at 0) ≡ true) ⌝ }
     ensures { λ r. ⌜ (r .stop ≡ past (isOf NameByte) (now (text .entry)) at) × (r .hash ≡ hashOf (drop at (take (r .stop) (now (text .entry))))) ⌝ }
 {
-    let mut hash = 0;
-    let mut i = at;
+    let mut hash = hash_next(0, text[at]);
+    let mut i = at + 1;
     while i < text.len() {
         let b = text[i];
         if is_name_byte(b) {

@@ -10,8 +10,7 @@ ghost use lib.ListN.{length, drop};
 ghost use Rattle.refusal.specs.Lists.{every};
 ghost use Rattle.text.specs.Bytes.{isSpace, isDigit, isLetter, isNameByte, isPrinting, isAllowed};
 ghost use Rattle.text.specs.Lines.{terminatorLength, lineOf, tokensFrom, leads as leadsBy};
-ghost use Rattle.text.specs.Spelling.{isName};
-ghost use Rattle.text.specs.declared.Class.the-variants.{Space, NameByte, Printing};
+ghost use Rattle.text.specs.declared.Class.the-variants.{Space, Printing};
 ghost use Rattle.text.specs.Scan.{isOf, past, stopDigit, stopDigitsAt, foundLine, endsToken, tokensBy, Within};
 
 fn is_space(b: u8) -> bool
@@ -229,17 +228,6 @@ pub fn next_token(line: &[u8], at: usize) -> NextToken
     }
     let stop = scan(line, start, Class::Solid);
     NextToken::OneMore(Span { start, stop })
-}
-
-// Whether bytes of a name, from `at` to the end, are a name: whether the first is a letter.
-pub fn is_name(text: &[u8], at: usize) -> bool
-    requires { ⌜ (at ≤ length (now text)) × (every (isOf NameByte) (drop at (now text)) ≡ true) ⌝ }
-    ensures { λ r. ⌜ r ≡ isName (drop at (now (text .entry))) ⌝ }
-{
-    if at == text.len() {
-        return false;
-    }
-    is_letter(text[at])
 }
 
 // Whether the line from `at` on starts with a letter, then white space or the line's end.

@@ -66,7 +66,7 @@ returns c =
     (storing-done (l .loop .inv) (tokens-done (c .before .before .before .before .before .before .args .line .now) (l .loop .i) _ (c .before .spaces .ensures) (c .if1 .taken)), l .loop .inv .whole)
 
 setting-requires : tie.Need-setting-requires Inv-loop μ-loop
-setting-requires c κs = let p = c .before .before .before .before .before .before .pre in (omega (arith, inside c), p .1, p .2)
+setting-requires c κs = let p = c .before .before .before .before .before .before .pre in (inside c, p .1, p .2)
 
 enum-known-number : tie.Need-enum-known-number Inv-loop μ-loop
 enum-known-number c = search needs
