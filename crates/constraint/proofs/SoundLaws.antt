@@ -15,8 +15,8 @@ use Rattle.refusal.specs.Lists.{isThere}
 use Rattle.refusal.specs.Result.{accepted}
 use Rattle.refusal.proofs.ResultLaws.{Yields, yields-accepted, yields-refused, yields-bind, yields-ensure, yields-also, yields-itself}
 use Rattle.text.specs.Lines.{TextLine, textLines}
-use Rattle.text.specs.Reading.{readAnyLine, readLines, readText}
-use Rattle.text.proofs.ReadingLaws.{keeps-text, keeps-any-line}
+use Rattle.text.specs.Reading.{readLines, readText}
+use Rattle.text.proofs.ReadingLaws.{keeps-text}
 use Rattle.constraint.specs.declared.Kind.{Kind}
 use Rattle.constraint.specs.declared.Kind.the-variants.{Skipped, OfVersion, OfExpectation, OfDeclarations, OfStatement, OfNoKind}
 use Rattle.constraint.specs.File.{Variable, File, emptyFile, withVersion, withExpectation, editionOf}
@@ -66,10 +66,7 @@ line-keeps : (f : File) (l : TextLine) → SoundFile f → Yields SoundFile (rea
 unfolding readLine
 line-keeps f l h = as-keeps (kindOf (l .bytes)) f l h
 
-pub any-line-keeps : (f : File) (l : TextLine) → SoundFile f → Yields SoundFile (readAnyLine Constraint readLine f l)
-any-line-keeps = keeps-any-line Constraint readLine line-keeps
-
-pub empty-sound : SoundFile emptyFile
+empty-sound : SoundFile emptyFile
 empty-sound = record { few-variables = omega arith; few-lines = omega arith; variables = tt; distinct = tt; lines = tt }
 
 file-yields : (bytes : List ℕ) → Yields SoundFile (readFile bytes)

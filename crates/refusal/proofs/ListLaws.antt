@@ -54,16 +54,6 @@ unfolding firstFrom
 first-from test n i [] e = never (cc e)
 first-from test n i (x ∷ xs) e = not-before (test x) n i (firstFrom test (suc n) xs) (first-from test (suc n) i xs) e
 
--- a first stays the first, whatever stands behind the list
-kept : (t : Bool) (n i : ℕ) (rest more : Option ℕ) → (rest ≡ some i → more ≡ some i) → cond t (some n) rest ≡ some i → cond t (some n) more ≡ some i
-kept true n i rest more h e = e
-kept false n i rest more h e = h e
-
-pub first-kept : {A : Type 0} (test : A → Bool) (n i : ℕ) (xs ys : List A) → firstFrom test n xs ≡ some i → firstFrom test n (xs ++ ys) ≡ some i
-unfolding firstFrom
-first-kept test n i [] ys e = never (cc e)
-first-kept test n i (x ∷ xs) ys e = kept (test x) n i (firstFrom test (suc n) xs) (firstFrom test (suc n) (xs ++ ys)) (first-kept test (suc n) i xs ys) e
-
 -- a list with no first leaves it to what stands behind
 pub first-behind : {A : Type 0} (test : A → Bool) (n : ℕ) (xs ys : List A) → firstFrom test n xs ≡ none → firstFrom test n (xs ++ ys) ≡ firstFrom test (n + length xs) ys
 unfolding firstFrom

@@ -14,15 +14,15 @@ use Rattle.refusal.proofs.ResultLaws.{never}
 use Rattle.text.specs.Bytes.{same}
 use Rattle.text.proofs.NameLaws.{same-true, same-self}
 use Rattle.constraint.specs.File.{Variable, variableNamed}
-use Rattle.constraint.specs.Sound.{Each, Distinct}
+use Rattle.constraint.specs.Sound.{Distinct}
 use Rattle.constraint.proofs.EachLaws.{each-map, each-fails, distinct-last}
 use Rattle.store.specs.Hash.{hashOf, buckets, bucketOf}
-use Rattle.store.specs.Names.{lastBelow, Chained, bucketIn, nextIn, firstIn, Searchable, withName}
-use Rattle.store.specs.Tables.{tabulate, lengthUnit, firstUnit, entryBound, nameStart, nameLength, nextEntry, firstEntry, withWordOf, withFirstEntry, variableOf, variableIn, variablesIn}
+use Rattle.store.specs.Names.{bucketIn, nextIn, firstIn, Searchable, withName}
+use Rattle.store.specs.Tables.{tabulate, lengthUnit, firstUnit, entryBound, nameStart, nameLength, firstEntry, withWordOf, withFirstEntry, variableOf, variableIn, variablesIn}
 use Rattle.store.proofs.ChainLaws.{last-none, last-le, chained-more, Walk}
 use Rattle.store.proofs.LookupLaws.{named-nowhere, named-there}
 use Rattle.store.proofs.TableLaws.{tabulate-suc, tabulate-cong}
-use Rattle.store.proofs.VariableTableLaws.{next-alike, within-alike, variable-alike, first-put, first-beside, first-kept, next-put, within-put, variable-put}
+use Rattle.store.proofs.VariableTableLaws.{next-alike, within-alike, variable-alike, first-put, first-beside, entry-kept, next-put, within-put, variable-put}
 
 -- ---- no variable yet, in a table of zeros
 zero-first : (b : ℕ) → b < buckets → firstIn (replicate maxVariables 0) b ≡ 0
@@ -78,7 +78,7 @@ module _ (table : List ℕ) (n start len width b : ℕ) (hn : n < length table) 
 
   first-named : (c : ℕ) → firstIn named c ≡ firstIn table c
   first-named c = elim (ℕ-discrete c n) [
-    | yes e ↦ rw (e, getD-set-same table n put 0 hn) (first-kept (getD table n 0) start len width (firstIn table b) s l w k)
+    | yes e ↦ rw (e, getD-set-same table n put 0 hn) (entry-kept (getD table n 0) start len width (firstIn table b) s l w k)
     | no e ↦ rw (getD-set-other table n c put 0 e)
   ]
 

@@ -88,9 +88,9 @@ module _ (word start len width next : ℕ) (s : start < lengthUnit) (l : len ≤
   abbrev put : ℕ
   put = withWordOf word start len width next
 
-  pub first-kept : firstEntry put ≡ firstEntry word
+  pub entry-kept : firstEntry put ≡ firstEntry word
   unfolding firstEntry withWordOf
-  first-kept = omega arith
+  entry-kept = omega arith
 
   pub next-put : nextEntry put ≡ next
   unfolding nextEntry withWordOf

@@ -45,7 +45,7 @@ line-allowed file readLine l ls s u e = let p = bind-accepted (readAnyLine file 
 
 -- what each line keeps holds of the whole
 module _ {State : Type 0} {P : State → Type 0} (file : Subject) (readLine : State → TextLine → Result State) (keeps : (s : State) (l : TextLine) → P s → Yields P (readLine s l)) where
-  pub keeps-any-line : (s : State) (l : TextLine) → P s → Yields P (readAnyLine file readLine s l)
+  keeps-any-line : (s : State) (l : TextLine) → P s → Yields P (readAnyLine file readLine s l)
   unfolding readAnyLine
   keeps-any-line s l h = yields-ensure (every isAllowed (l .bytes)) _ λ _. yields-cond (every isSpace (l .bytes)) (yields-accepted h) (keeps s l h)
 

@@ -1,3 +1,4 @@
+-- `declaration_line` meets its contract: where it may stand, and that it has a token.
 use Prim.Native.Nat.{ℕ, _+_, _<_}
 use mathlib.Core.Bool.{true}
 use mathlib.Core.List.{List}

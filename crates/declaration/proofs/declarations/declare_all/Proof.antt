@@ -1,3 +1,4 @@
+-- `declare_all` meets its contract. The loop's invariant: what is left to declare, from what is held, is what there was to declare.
 use Prim.Native.Nat.{ℕ, _-_, _≤_, _<_}
 use mathlib.Core.Path.{_≡_, refl, sym, _∙_}
 use mathlib.Core.Bool.{true}
@@ -6,7 +7,6 @@ use native.Mathlib.Omega.{arith}
 use lib.ListN.{length, take, drop}
 use lib.Seq.{length-take-le}
 use borrow.Author.Needs.{needs}
-use Rattle.edition.specs.Edition.{maxVariables}
 use Rattle.text.specs.declared.Class.the-variants.{Space, Solid}
 use Rattle.text.specs.Lines.{tokensFrom}
 use Rattle.text.specs.Scan.{isOf, past, tokenFrom}

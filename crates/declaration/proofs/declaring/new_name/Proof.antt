@@ -1,3 +1,4 @@
+-- `new_name` meets its contract: the tests in their order.
 use mathlib.Core.Path.{ap, sym, _∙_}
 use Rattle.store.specs.Tables.{place}
 use Rattle.store.proofs.LookupLaws.{variables-length}

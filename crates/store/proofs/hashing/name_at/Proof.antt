@@ -1,6 +1,6 @@
 -- `name_at` meets its contract. The loop's invariant: the run of bytes of a name that is left ends where the whole one does,
 -- and its bytes behind the hash so far give the whole one's hash.
-use Prim.Native.Nat.{_+_, _-_, _≤_}
+use Prim.Native.Nat.{_-_, _≤_}
 use mathlib.Core.Path.{_≡_, sym, _∙_}
 use native.Mathlib.Omega.{arith}
 use lib.ListN.{length, getD, drop}

@@ -1,4 +1,4 @@
-use native.Mathlib.Omega.{arith}
+-- `add` meets its contract: two words are put in, in the order of the definition.
 use Rattle.store.specs.Names.{withName}
 use borrow.Author.Needs.{needs}
 use Rattle.store.proofs.names.add.Statement.{statement}

@@ -1,10 +1,11 @@
+-- `find` meets its contract. The loop's invariant: a walk along the chain, on which no variable passed has the name.
 use mathlib.Core.Path.{_≡_, sym, _∙_}
-use Prim.Native.Nat.{_-_, _<_}
+use Prim.Native.Nat.{_-_}
 use native.Mathlib.Omega.{arith}
 use lib.ListN.{drop}
 use borrow.Author.Needs.{needs}
 use Rattle.store.specs.Hash.{bucketOf}
-use Rattle.store.specs.Names.{bucketIn, firstIn, nextIn}
+use Rattle.store.specs.Names.{bucketIn}
 use Rattle.store.proofs.ChainLaws.{Walk, walk-first, walk-less, walk-next}
 use Rattle.store.proofs.SearchLaws.{has, has-part, search-found, search-ended}
 use Rattle.store.proofs.names.find.Statement.{statement}

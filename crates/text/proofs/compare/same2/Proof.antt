@@ -1,4 +1,4 @@
-use native.Mathlib.Omega.{arith}
+-- `same2` meets its contract: the two tests, joined.
 use Rattle.text.proofs.CompareLaws.{at-two}
 use borrow.Author.Needs.{needs}
 use Rattle.text.proofs.compare.same2.Statement.{statement}
