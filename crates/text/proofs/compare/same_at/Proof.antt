@@ -20,7 +20,7 @@ sub-if1 : tie.Need-sub-if1 Inv-loop μ-loop
 sub-if1 c = search needs
 
 returns : tie.Need-returns Inv-loop μ-loop
-returns c = let a = c .before .before .before .args in sym (same-short (a .file .now) (a .text .now) (a .start) (a .len) (a .at) (omega arith) (c .if1 .taken))
+returns c = let a = c .before .before .before .args in sym (same-short (a .file .now) (a .text .now) (a .start) (a .len) (a .at) (omega arith) (λ e. let z : ⊥ = omega arith in z))
 
 loop-holds : tie.Need-loop-holds Inv-loop μ-loop
 loop-holds c = (omega arith, omega arith, same-first _ _ _ _ _)
