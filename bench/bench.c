@@ -402,7 +402,7 @@ static void make_files(struct files *files, const struct input *input)
 /* Measuring. */
 
 typedef uint32_t check(const uint8_t *, size_t, const uint8_t *, size_t);
-typedef uint32_t change(const uint8_t *, size_t, uint64_t *, uint8_t *, size_t, uint64_t);
+typedef uint32_t change(const uint8_t *, size_t, uint64_t *, uint8_t *, uint64_t *, size_t, uint64_t);
 typedef ptrdiff_t clean(const uint8_t *, size_t, uint8_t *, size_t);
 typedef ptrdiff_t build(const uint8_t *, size_t, uint32_t *, size_t, uint32_t *, size_t);
 
@@ -501,48 +501,63 @@ static void report(const struct input *input)
 
 /* Flips: the first variable, of width 1, from 0 to 1 and back, in tables that a check filled. */
 
-static uint64_t values[VARIABLES];
-static uint8_t verdicts[LINES];
+static struct {
+    uint64_t values[VARIABLES];
+    uint8_t verdicts[LINES];
+    uint64_t results[LINES];
+} held;
 
 static uint32_t check_tables(const uint8_t *constraints, size_t constraints_len,
                              const uint8_t *answer, size_t answer_len)
 {
-    return SPEAR_KIND(spear_check_tables(constraints, constraints_len, answer, answer_len, values,
-                                         VARIABLES, verdicts, LINES));
+    return SPEAR_KIND(spear_check_tables(constraints, constraints_len, answer, answer_len, held.values,
+                                         VARIABLES, held.verdicts, LINES, held.results, LINES));
 }
 
 static uint32_t flip(const uint8_t *constraints, size_t constraints_len, const uint8_t *answer,
                      size_t answer_len)
 {
     (void)answer, (void)answer_len;
-    uint64_t word = spear_change(constraints, constraints_len, values, VARIABLES, verdicts, LINES, 0,
-                                 values[0] ^ 1);
+    uint64_t word = spear_change(constraints, constraints_len, held.values, VARIABLES, held.verdicts,
+                                 LINES, held.results, LINES, 0, held.values[0] ^ 1);
     return SPEAR_KIND(word) == SPEAR_KIND_REFUSED;
+}
+
+static uint32_t plain_flip(change *changer, const uint8_t *constraints, size_t constraints_len)
+{
+    uint64_t flipped = held.values[0] ^ 1;
+    return changer(constraints, constraints_len, held.values, held.verdicts, held.results, 0, flipped) >= 100;
 }
 
 static uint32_t plain_flip_o2(const uint8_t *constraints, size_t constraints_len,
                               const uint8_t *answer, size_t answer_len)
 {
     (void)answer, (void)answer_len;
-    return plain_change_o2(constraints, constraints_len, values, verdicts, 0, values[0] ^ 1) >= 100;
+    return plain_flip(plain_change_o2, constraints, constraints_len);
 }
 
 static uint32_t plain_flip_o3(const uint8_t *constraints, size_t constraints_len,
                               const uint8_t *answer, size_t answer_len)
 {
     (void)answer, (void)answer_len;
-    return plain_change_o3(constraints, constraints_len, values, verdicts, 0, values[0] ^ 1) >= 100;
+    return plain_flip(plain_change_o3, constraints, constraints_len);
 }
 
-/* A flip by one program and then by the other must leave the verdicts as the first check did. */
-static void compare_flips(const struct files *files)
+/* There by the one and back by the other, in either order: all tables must be the same there, and back as
+   they were. */
+static void compare_flips(const struct files *files, check *one, check *other)
 {
-    static uint8_t before[LINES];
-    memcpy(before, verdicts, sizeof before);
-    if (reply_of(flip, files) != 0 || reply_of(plain_flip_o2, files) != 0)
-        fail("a flip is refused");
-    if (memcmp(before, verdicts, sizeof before) != 0)
-        fail("the flips differ");
+    static char before[sizeof held], there[sizeof held];
+    check *const flips[] = {one, other, other, one};
+    memcpy(before, &held, sizeof held);
+    for (size_t i = 0; i < sizeof flips / sizeof *flips; i++) {
+        if (reply_of(flips[i], files) != 0)
+            fail("a flip is refused");
+        if (i == 0)
+            memcpy(there, &held, sizeof held);
+        if (memcmp(i % 2 == 0 ? there : before, &held, sizeof held) != 0)
+            fail("the flips differ");
+    }
 }
 
 static void report_flips(const struct input *input)
@@ -551,7 +566,7 @@ static void report_flips(const struct input *input)
     make_files(&files, input);
     if (reply_of(check_tables, &files) != 0)
         fail("the check isn't satisfied");
-    compare_flips(&files);
+    compare_flips(&files, flip, plain_flip_o2);
     struct measurement by[] = {
         measurement_of(check_tables, &files),
         measurement_of(flip, &files),
@@ -606,7 +621,7 @@ static uint32_t read_file(const uint8_t *constraints, size_t constraints_len,
                           const uint8_t *answer, size_t answer_len)
 {
     (void)answer, (void)answer_len;
-    uint64_t word = spear_change(constraints, constraints_len, NULL, 0, NULL, 0, 0, 0);
+    uint64_t word = spear_change(constraints, constraints_len, NULL, 0, NULL, 0, NULL, 0, 0, 0);
     return SPEAR_KIND(word) != SPEAR_KIND_REFUSED || SPEAR_NUMBER(word) < 21;
 }
 
@@ -834,24 +849,10 @@ static uint32_t flip_through(const uint8_t *constraints, size_t constraints_len,
                              const uint8_t *answer, size_t answer_len)
 {
     (void)answer, (void)answer_len;
-    uint64_t word = spear_change_through(constraints, constraints_len, values, VARIABLES, verdicts,
-                                         LINES, built.starts, STARTS, built.lists, LISTED, 0,
-                                         values[0] ^ 1);
+    uint64_t word = spear_change_through(constraints, constraints_len, held.values, VARIABLES,
+                                         held.verdicts, LINES, held.results, LINES, built.starts, STARTS,
+                                         built.lists, LISTED, 0, held.values[0] ^ 1);
     return SPEAR_KIND(word) == SPEAR_KIND_REFUSED;
-}
-
-/* There by the one and back by the other must leave the verdicts as the check did, in either order. */
-static void compare_flips_through(const struct files *files)
-{
-    static uint8_t before[LINES];
-    memcpy(before, verdicts, sizeof before);
-    check *const flips[] = {flip, flip_through, flip_through, flip};
-    for (size_t i = 0; i < sizeof flips / sizeof *flips; i++) {
-        if (reply_of(flips[i], files) != 0)
-            fail("a flip is refused");
-        if (i % 2 == 1 && memcmp(before, verdicts, sizeof before) != 0)
-            fail("the flips differ");
-    }
 }
 
 static void report_flips_through(const struct input *input)
@@ -860,7 +861,7 @@ static void report_flips_through(const struct input *input)
     make_files(&files, input);
     if (reply_of(check_tables, &files) != 0 || reply_of(index_file, &files) != 0)
         fail("a file isn't checked and indexed");
-    compare_flips_through(&files);
+    compare_flips(&files, flip, flip_through);
     struct measurement by[] = {
         measurement_of(flip, &files),
         measurement_of(flip_through, &files),

@@ -668,22 +668,25 @@ static uint64_t value_of(const struct problem *problem, const struct operand *op
     return problem->variables[operand->variable].value;
 }
 
-static uint32_t line_verdict(const struct problem *problem, const struct line *line)
+/* Puts down the result too, 0 where there is none. */
+static uint32_t line_verdict(const struct problem *problem, const struct line *line, uint64_t *result)
 {
     uint64_t values[OPERANDS] = {0};
+    *result = 0;
     for (int i = 0; i < operand_counts[line->operator]; i++)
         values[i] = value_of(problem, &line->operands[i]);
     if (UDIV <= line->operator && line->operator <= SREM && values[1] == 0)
         return DISREGARDED;
-    uint64_t result = apply(line, values[0], values[1], values[2]) & mask(line->output.width);
-    return result == value_of(problem, &line->output) ? SATISFIED : VIOLATED;
+    *result = apply(line, values[0], values[1], values[2]) & mask(line->output.width);
+    return *result == value_of(problem, &line->output) ? SATISFIED : VIOLATED;
 }
 
 static uint32_t verdict(const struct problem *problem)
 {
     uint32_t worst = SATISFIED;
     for (uint32_t i = 0; i < problem->line_count && worst != DISREGARDED; i++) {
-        uint32_t next = line_verdict(problem, &problem->lines[i]);
+        uint64_t result;
+        uint32_t next = line_verdict(problem, &problem->lines[i], &result);
         if (next > worst)
             worst = next;
     }
@@ -732,7 +735,7 @@ static uint32_t overall(const uint8_t *verdicts, size_t count)
 }
 
 uint32_t plain_change(const uint8_t *constraints, size_t constraints_len, uint64_t *values,
-                      uint8_t *verdicts, size_t variable, uint64_t value)
+                      uint8_t *verdicts, uint64_t *results, size_t variable, uint64_t value)
 {
     struct problem problem;
     memset(&problem, 0, offsetof(struct problem, variables));
@@ -744,7 +747,7 @@ uint32_t plain_change(const uint8_t *constraints, size_t constraints_len, uint64
         problem.variables[i].value = values[i];
     for (size_t i = 0; i < problem.line_count; i++)
         if (names(&problem.lines[i], (int)variable))
-            verdicts[i] = verdict_byte(line_verdict(&problem, &problem.lines[i]));
+            verdicts[i] = verdict_byte(line_verdict(&problem, &problem.lines[i], &results[i]));
     return overall(verdicts, problem.line_count);
 }
 

@@ -8,10 +8,10 @@
 uint32_t plain_check(const uint8_t *constraints, size_t constraints_len,
                      const uint8_t *answer, size_t answer_len);
 
-/* Changes a value in tables that a check of the file left, and renews the verdicts of the lines that
-   name the variable; the overall verdict in the same way. */
+/* Changes a value in tables that a check of the file left, and renews the verdicts and the results of the
+   lines that name the variable; the overall verdict in the same way. */
 uint32_t plain_change(const uint8_t *constraints, size_t constraints_len, uint64_t *values,
-                      uint8_t *verdicts, size_t variable, uint64_t value);
+                      uint8_t *verdicts, uint64_t *results, size_t variable, uint64_t value);
 
 /* Writes the clean spelling of a constraint file into a room, and gives its length; or -1 where the
    file is refused or the room too short, and then the room is as it was. */

@@ -7,10 +7,10 @@
  *
  * Nothing is asked of what a call is lent: any bytes, any numbers, any lengths.
  * A pointer may be null only where its length is 0. A range that a call writes
- * (values, verdicts, output, the tables of an index that is built) must not
- * overlap any other range of the same call: what happens then is outside what
- * is proved. The calls keep no state, so threads may make them at the same
- * time. Each needs some 50 KB of stack, spear_clean some 110 KB.
+ * (values, verdicts, results, output, the tables of an index that is built)
+ * must not overlap any other range of the same call: what happens then is
+ * outside what is proved. The calls keep no state, so threads may make them at
+ * the same time. Each needs some 50 KB of stack, spear_clean some 110 KB.
  */
 #ifndef SPEAR_H
 #define SPEAR_H
@@ -38,23 +38,28 @@ uint32_t spear_check(const uint8_t *constraints, size_t constraints_len,
                      const uint8_t *answer, size_t answer_len);
 
 /* The same check into tables of the caller's: a value for each variable in the
- * order of the declarations, and a verdict for each `c` or `p` line: 1 holds,
- * 0 violated, 2 disregarded. Both may be longer; nothing behind the entries in
- * use changes, and a refusal changes nothing. Lengths are numbers of entries.
- * Gives a word that the macros below unpack.
+ * order of the declarations, and for each `c` or `p` line a verdict (1 holds,
+ * 0 violated, 2 disregarded) and a result: what its operator came to, for a `p`
+ * line 0 or 1, for a disregarded line 0. The tables may be longer; nothing
+ * behind the entries in use changes, and a refusal changes nothing: 21 of the
+ * first table that is too short. Lengths are numbers of entries. Gives a word
+ * that the macros below unpack.
  */
 uint64_t spear_check_tables(const uint8_t *constraints, size_t constraints_len,
                             const uint8_t *answer, size_t answer_len,
                             uint64_t *values, size_t values_len,
-                            uint8_t *verdicts, size_t verdicts_len);
+                            uint8_t *verdicts, size_t verdicts_len,
+                            uint64_t *results, size_t results_len);
 
 /* Changes the variable of that number, from 0, to a value, on tables as a check
  * or a change of the same constraint file left them: stores the value, and
- * renews the verdicts of the lines that name the variable. Gives a word.
+ * renews the verdicts and the results of the lines that name the variable. The
+ * results are not looked at: any words may stand there. Gives a word.
  */
 uint64_t spear_change(const uint8_t *constraints, size_t constraints_len,
                       uint64_t *values, size_t values_len,
                       uint8_t *verdicts, size_t verdicts_len,
+                      uint64_t *results, size_t results_len,
                       size_t variable, uint64_t value);
 
 /* Builds the index of a constraint file: which lines name a variable. Fills two
@@ -83,6 +88,7 @@ uint64_t spear_index(const uint8_t *constraints, size_t constraints_len,
 uint64_t spear_change_through(const uint8_t *constraints, size_t constraints_len,
                               uint64_t *values, size_t values_len,
                               uint8_t *verdicts, size_t verdicts_len,
+                              uint64_t *results, size_t results_len,
                               const uint32_t *starts, size_t starts_len,
                               const uint32_t *lists, size_t lists_len,
                               size_t variable, uint64_t value);
@@ -142,6 +148,7 @@ uint64_t spear_write(const uint8_t *constraints, size_t constraints_len,
 #define SPEAR_OF_CALL 5u
 #define SPEAR_OF_STARTS 6u
 #define SPEAR_OF_LISTS 7u
+#define SPEAR_OF_RESULTS 8u
 
 #ifdef __cplusplus
 }

@@ -142,6 +142,12 @@ def result(file, line, values):
     return found
 
 
+def kept_result(file, line, values):
+    """What a table of results has of a line: 0 where it is disregarded."""
+    found = result(file, line, values)
+    return 0 if found is None else found
+
+
 def verdict(file, line, values):
     """1 holds, 0 violated, 2 disregarded."""
     found = result(file, line, values)
@@ -153,6 +159,10 @@ def verdict(file, line, values):
 
 def all_verdicts(file, values):
     return [verdict(file, line, values) for line in file.lines]
+
+
+def all_results(file, values):
+    return [kept_result(file, line, values) for line in file.lines]
 
 
 def overall(verdicts):
@@ -188,6 +198,28 @@ def write(constraint, values, room):
     text = spelled(file, values)
     return text if len(text) <= room else Refusal(21, "output", 0)
 
+
+# Lines with their verdicts and results worked out by hand, under the values of a, b, x and t.
+
+WORKED_HEAD = "v 1.0\nd a:i8 b:i8 x:i64 t:i1\n"
+WORKED_VALUES = [200, 0, 2**64 - 1, 1]
+WORKED_OUT = [
+    ("c a + a 1:i8", 0, 201),
+    ("c 0:i8 + a 56:i8", 1, 0),
+    ("c b /u a b", 2, 0),
+    ("c a %s a b", 2, 0),
+    ("c b /u a 201:i8", 1, 0),
+    ("c b ~ b", 0, 255),
+    ("c x ~ 0:i64", 1, 2**64 - 1),
+    ("c 5:i64 - 0:i64 x", 0, 1),
+    ("c x >>l x 1:i8", 0, 2**63 - 1),
+    ("c 0:i16 conc a a", 0, 51400),
+    ("c t ult b a", 1, 1),
+    ("c 0:i1 ult b a", 0, 1),
+    ("p ugt b a", 0, 0),
+    ("p ult b a", 1, 1),
+    ("p ~ t", 0, 0),
+]
 
 # 01's case whole, 003's two answers, and edges: answers that are read against HEAD, with their values, and
 # those that are refused, with the number, and ¦ at the position.
@@ -268,6 +300,10 @@ def self_test():
     assert write(WHOLE, [17056, 17060, 1117799076, 2**64 - 1], 47) == SET % 1117799076
     assert write(WHOLE, [17056, 17060, 1117799076], 46) == (21, "output", 0)
     assert overall([1, 0, 2, 0, 2]) == "disregarded 3"
+    for text, byte, number in WORKED_OUT:
+        file = read_constraint((WORKED_HEAD + text).encode())
+        found = all_verdicts(file, WORKED_VALUES), all_results(file, WORKED_VALUES)
+        assert found == ([byte], [number]), (text, found)
     for values, text in READ + READ_WITH_CRS:
         assert read(HEAD, text.encode(), 3) == values, (text, read(HEAD, text.encode(), 3))
     for number, text in REFUSED + REFUSED_WITH_CRS:
@@ -279,4 +315,5 @@ if __name__ == "__main__":
     if sys.argv[1:] != ["--self-test"]:
         sys.exit(f"usage: {sys.argv[0]} --self-test")
     self_test()
-    print(f"{len(READ + READ_WITH_CRS)} answers are read, {len(REFUSED + REFUSED_WITH_CRS)} refused")
+    print(f"{len(READ + READ_WITH_CRS)} answers are read, {len(REFUSED + REFUSED_WITH_CRS)} refused,", end=" ")
+    print(f"{len(WORKED_OUT)} lines come to what was worked out by hand")

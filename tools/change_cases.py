@@ -4,18 +4,19 @@ indexes.py answer to FOLDER/stdout. Every run of this program writes the same.
 
 usage: python3 tools/change_cases.py FOLDER
 
-A run starts with a line of 38 bytes: `r` and four numbers of eight hexadecimal digits, the lengths of the
-constraint file and of the answer and the entries of the value and verdict tables. Both files follow, then
-commands: lines of 54 bytes with a letter, two numbers of sixteen hexadecimal digits and two of eight.
-  c  a change: the variable, the value, and how many values and verdicts are lent
+A run starts with a line of 47 bytes: `r` and five numbers of eight hexadecimal digits, the lengths of the
+constraint file and of the answer and the entries of the value, verdict and result tables. Both files follow, then
+commands: lines of 63 bytes with a letter, two numbers of sixteen hexadecimal digits and three of eight.
+  c  a change: the variable, the value, and how many values, verdicts and results are lent
   t  the same through the index that is lent
   n  lends an index from now on: the third and the fourth number are how many starts and lists
   b  builds the file's index into what is lent
   s  stores the second number at the place, from 0, that the first one says in the starts; l in the lists,
-  v  in the values, w in the verdicts
+  v  in the values, w in the verdicts, u in the results
 A line of `e` and spaces, as long, ends the run.
 The reply is a line for the check, a line for each change and each building, with the starts and the lists that
-are lent behind it, and the values and the verdicts after the run; then the starts and the lists, if any are lent.
+are lent behind it, and the values, the verdicts and the results after the run; then the starts and the lists, if
+any are lent.
 """
 import sys
 from collections import Counter
@@ -30,6 +31,7 @@ import constraints
 import crowds
 import index_runs
 import indexes
+import result_runs
 from answer_cases import (
     MOST,
     MOST_ENTRIES,
@@ -55,7 +57,7 @@ from change_runs import (
     filled,
     make,
     possible_faults,
-    results,
+    results_for,
     sized,
     unchecked,
     wander,
@@ -155,7 +157,7 @@ def edge_changes(constraint, count, zeros):
     for _ in range(count):
         variable = random.randrange(len(run.file.variables))
         width = widths(run)[variable]
-        value = random.choice((random.choice(edges(width)), *results(run, variable)))
+        value = random.choice((random.choice(edges(width)), *results_for(run, variable)))
         run.change(variable, 0 if random.random() < zeros else value)
     return wander(run, count // 4)
 
@@ -411,8 +413,8 @@ GROUPS += [orders, first_contents, bare_files, faulty_constraints, sizes, each_o
 
 # Every refusal that a change or a building can give: by subject, the numbers.
 REFUSALS = {"constraint": {*range(1, 16)}, "values": {21, 24}, "verdicts": {21, 24}, "call": {18, 23}}
-REFUSALS |= {"starts": {21, 25}, "lists": {21, 25}}
-MOST_STDIN = 2200000
+REFUSALS |= {"starts": {21, 25}, "lists": {21, 25}, "results": {21}}
+MOST_STDIN = 2650000
 
 
 def kind(found):
@@ -428,7 +430,7 @@ def assert_complete(runs):
     refusals = {(answer.subject, answer.number) for answer in found if isinstance(answer, Refusal)}
     assert refusals == {(subject, number) for subject, numbers in REFUSALS.items() for number in numbers}
     assert {answer.bits for answer in found if isinstance(answer, Changed)} == {*range(65)}
-    assert sum(max(len(run.constraint), len(run.answer)) > 5000 for run in runs) <= 8
+    assert sum(max(len(run.constraint), len(run.answer)) > 5000 for run in runs) <= 9
 
 
 def show(title, counter):
@@ -444,6 +446,7 @@ def main(folder):
     runs += [*faulty_with_crs(), *sizes_with_crs(), *repeated(runs)]
     runs += [run for group in index_runs.GROUPS for run in group()]
     runs += crowded_runs()
+    runs += [run for group in result_runs.GROUPS for run in group()]
     runs = list({run.stdin(): run for run in runs}.values())  # a file without LFs gets no CRs
     for run in runs:
         if run.model:

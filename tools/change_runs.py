@@ -2,84 +2,79 @@
 import sys
 
 sys.dont_write_bytecode = True  # no __pycache__ in the repository
-import answer_cases
 import answers
 import changes
+import check_cases
 import checks
 import indexes
-from answer_cases import MOST, MOST_BYTES, MOST_ENTRIES, Instance, any_answer, any_value, constant, random
+from answer_cases import MOST, Instance, any_answer, any_value, constant, random
 from answers import Refusal
 from changes import Changed, Model
-from check_cases import LENT_VERDICT, MOST_VERDICTS, Case
+from check_cases import Case, rooms, table_line, tables_after
 from checks import Checked
 from indexes import Index, Indexed
 from operators import OPERATORS, Word
 
-END = b"e".ljust(53) + b"\n"
+END = b"e".ljust(62) + b"\n"
 MOST_STARTS = 300
 MOST_LISTS = 4200
-STORES = {"starts": ("s", 32), "lists": ("l", 32), "values": ("v", 64), "verdicts": ("w", 8)}  # letter and bits
+TABLES = ("values", "verdicts", "results")
+
+# The letter of the command that stores into a table, and the table's bits.
+STORES = {"starts": ("s", 32), "lists": ("l", 32), "values": ("v", 64), "verdicts": ("w", 8), "results": ("u", 64)}
 
 
 # A run in the corpus, and its replies.
 
 
-def table_line(table):
-    return "".join(f"{entry} " for entry in table) + "\n"
-
-
-def command(kind, *numbers):
-    return "{} {:016x} {:016x} {:08x} {:08x}\n".format(kind, *numbers).encode()
+def command(kind, first=0, second=0, third=0, fourth=0, fifth=0):
+    return f"{kind} {first:016x} {second:016x} {third:08x} {fourth:08x} {fifth:08x}\n".encode()
 
 
 class Run:
     """A check on the whole tables, then the commands so far. After an accepted check the model goes along, as long
     as every change uses no index, or one that lists for its variable what the file's own does."""
 
-    def __init__(self, constraint, answer, values, verdicts):
-        assert max(len(constraint), len(answer)) <= MOST_BYTES
-        assert values <= MOST_ENTRIES and verdicts <= MOST_VERDICTS
-        self.start = Case(constraint, answer, values, verdicts)
+    def __init__(self, constraint, answer, values, verdicts, results=None):
+        self.start = Case(constraint, answer, values, verdicts, results)
         self.constraint, self.answer = constraint, answer
         self.file = answers.read_constraint(constraint)
-        self.values = [1000003 * (i + 1) for i in range(values)]
-        self.verdicts = [LENT_VERDICT] * verdicts
         self.starts = [10007 * (i + 1) for i in range(MOST_STARTS)]
         self.lists = [10007 * (i + 1) for i in range(MOST_LISTS)]
         self.lent = 0, 0  # how many starts and how many lists
-        lengths = len(constraint), len(answer), values, verdicts
-        self.calls = [answer_cases.header("r", *lengths) + constraint + answer]
-        self.checked = checks.check(constraint, answer, values, verdicts)
+        self.calls = [check_cases.start("r", self.start)]
+        self.checked = checks.check(*self.start)
         self.numbers, self.found = [], []  # what each plain change is told, and what each call answers
         self.said = [checks.outcome(self.checked)]
-        self.model = None
-        if isinstance(self.checked, Checked):
-            self.values[: len(self.checked.values)] = self.checked.values
-            self.verdicts[: len(self.checked.verdicts)] = self.checked.verdicts
-            self.model = Model(self.file, self.checked.values)
+        self.values, self.verdicts, self.results = tables_after(self.start, self.checked)
+        self.model = Model(self.file, self.checked.values) if isinstance(self.checked, Checked) else None
 
-    def change(self, variable, value, values_lent=None, verdicts_lent=None):
+    def change(self, variable, value, values_lent=None, verdicts_lent=None, results_lent=None):
         """Makes the change on the first entries lent of the tables, by default on the whole."""
-        self.numbers.append((variable, value, values_lent, verdicts_lent))
-        return self.ask("c", None, variable, value, values_lent, verdicts_lent)
+        self.numbers.append((variable, value, values_lent, verdicts_lent, results_lent))
+        return self.ask("c", None, variable, value, values_lent, verdicts_lent, results_lent)
 
-    def through(self, variable, value, values_lent=None, verdicts_lent=None):
+    def through(self, variable, value, values_lent=None, verdicts_lent=None, results_lent=None):
         """The same through the index that is lent."""
-        return self.ask("t", self.index(), variable, value, values_lent, verdicts_lent)
+        return self.ask("t", self.index(), variable, value, values_lent, verdicts_lent, results_lent)
 
-    def ask(self, kind, index, variable, value, values_lent, verdicts_lent):
-        values, verdicts = self.values[:values_lent], self.verdicts[:verdicts_lent]
-        lengths = len(values), len(verdicts)
-        found = changes.change(self.constraint, values, verdicts, variable, value, index)
+    def ask(self, kind, index, variable, value, *lent):
+        tables = [table[:length] for table, length in zip(self.tables(), lent)]
+        lengths = list(map(len, tables))
+        found = changes.change(self.constraint, *tables, variable, value, index)
         if index and isinstance(found, Changed) and not self.lists_as_own(index, variable):
             self.model = None
-        modelled = self.model and self.model.change(variable, value, *lengths, index)
-        self.assert_answer(found, modelled, values, verdicts)
-        self.values[: lengths[0]], self.verdicts[: lengths[1]] = values, verdicts
+        modelled = self.model and self.model.change(variable, value, dict(zip(TABLES, lengths)), index)
+        self.assert_answer(found, modelled, tables)
+        for table, changed in zip(self.tables(), tables):
+            table[: len(changed)] = changed
         self.calls.append(command(kind, variable, value, *lengths))
         self.found.append(found)
         self.said.append(changes.outcome(found))
         return found
+
+    def tables(self):
+        return self.values, self.verdicts, self.results
 
     def index(self):
         """The index that is lent."""
@@ -93,7 +88,7 @@ class Run:
         """Lends the first entries of the two tables of an index from now on."""
         assert starts <= MOST_STARTS and lists <= MOST_LISTS
         self.lent = starts, lists
-        self.calls.append(command("n", 0, 0, starts, lists))
+        self.calls.append(command("n", third=starts, fourth=lists))
 
     def build(self, starts, lists):
         """Builds the file's index into as many entries, and lends them."""
@@ -102,18 +97,18 @@ class Run:
         found = indexes.index(self.constraint, *tables)
         assert isinstance(found, Indexed) or tables == self.index(), found
         self.starts[:starts], self.lists[:lists] = tables
-        self.calls.append(command("b", 0, 0, 0, 0))
+        self.calls.append(command("b"))
         self.found.append(found)
         self.said += [indexes.outcome(found), *map(table_line, tables)]
         return found
 
     def store(self, table, place, number):
-        """Puts a number into a table. The model knows no values and verdicts that come from elsewhere."""
+        """Puts a number into a table. The model knows nothing of a row's that comes from elsewhere."""
         kind, bits = STORES[table]
         assert number < 2**bits
         getattr(self, table)[place] = number
-        self.calls.append(command(kind, place, number, 0, 0))
-        if table in ("values", "verdicts"):
+        self.calls.append(command(kind, place, number))
+        if table in TABLES:
             self.model = None
 
     def lay(self, starts, lists):
@@ -129,38 +124,37 @@ class Run:
         found = self.change(*numbers)
         assert found == said, (found, said)
 
-    def assert_answer(self, found, modelled, values, verdicts):
+    def assert_answer(self, found, modelled, tables):
         """That a change answers as the model does, and leaves the tables where it is refused."""
         assert not self.model or found == modelled, (found, modelled)
-        before = self.values[: len(values)], self.verdicts[: len(verdicts)]
-        assert isinstance(found, Changed) or (values, verdicts) == before, found
+        before = [table[: len(changed)] for table, changed in zip(self.tables(), tables)]
+        assert isinstance(found, Changed) or tables == before, found
 
     def assert_fresh(self):
-        """That the tables are the model's row and its verdicts, as a fresh check puts them there."""
-        row = self.model.row
-        fresh = checks.check(self.constraint, answers.spelled(self.file, row), len(row), len(self.file.lines))
-        assert (fresh.values, fresh.verdicts) == (row, self.model.verdicts())
-        spare = range(len(row) + 1, len(self.values) + 1)
-        assert self.values == row + [1000003 * i for i in spare]
-        assert self.verdicts == fresh.verdicts + [LENT_VERDICT] * (len(self.verdicts) - len(fresh.verdicts))
+        """That the tables are the model's row, its verdicts and its results, as a fresh check puts them there."""
+        model = self.model
+        fresh = self.start._replace(answer=answers.spelled(self.file, model.row))
+        found = checks.check(*fresh)
+        assert found[1:] == (model.row, model.verdicts(), model.results()), found
+        assert list(self.tables()) == tables_after(fresh, found), self.tables()
 
     def stdin(self):
         return b"".join(self.calls) + END
 
     def stdout(self):
-        tables = [self.values, self.verdicts, *(self.index() if any(self.lent) else ())]
+        tables = [*self.tables(), *(self.index() if any(self.lent) else ())]
         return "".join([*self.said, *map(table_line, tables)]).encode()
 
 
-def any_spare():
-    return random.choice((0, 0, 1, 7, 40))
+def any_spare(draws=random):
+    return draws.choice((0, 0, 1, 7, 40))
 
 
 def sized(constraint, answer):
     """A run whose tables are as long as the entries in use, or longer."""
     file = answers.read_constraint(constraint)
-    used = (4, 4) if isinstance(file, Refusal) else (len(file.variables), len(file.lines))
-    return Run(constraint, answer, *(count + any_spare() for count in used))
+    values, lines = (4, 4) if isinstance(file, Refusal) else (len(file.variables), len(file.lines))
+    return Run(constraint, answer, values + any_spare(), lines + any_spare(), lines + any_spare(rooms))
 
 
 def accepted(constraint, values):
@@ -193,7 +187,7 @@ def naming(run, variable):
     return [line for line in run.file.lines if changes.is_named(line, name)]
 
 
-def results(run, variable):
+def results_for(run, variable):
     """The results of the lines that have the variable as their output."""
     lines = [line for line in run.file.lines if line.output == run.model.declared(variable)]
     found = [answers.result(run.file, line, run.model.row) for line in lines]
@@ -215,7 +209,7 @@ def fitting(run, variable):
     width, old = widths(run)[variable], run.values[variable]
     values = [0, old + 1, old - 1, ~old, any_value(width), any_value(width), random.choice(run.values)]
     if run.model and random.random() < 0.5:
-        values += [run.checked.values[variable], *results(run, variable)]
+        values += [run.checked.values[variable], *results_for(run, variable)]
         return mending(run, variable, [value % 2**width for value in values])
     return random.choice(values) % 2**width
 
@@ -243,17 +237,18 @@ def any_missing(run):
     return random.choice((count, count, count + 1, *far))
 
 
-def any_lent(used, whole, is_short):
+def any_lent(draws, used, whole, is_short):
     """How many entries are lent of a table."""
     if is_short:
-        return random.choice((used - 1, used - 1, random.randrange(used), 0))
-    return random.choice((used, whole, whole, random.randint(used, whole)))
+        return draws.choice((used - 1, used - 1, draws.randrange(used), 0))
+    return draws.choice((used, whole, whole, draws.randint(used, whole)))
 
 
 # The faults of a change in the order in which they refuse it.
 FAULTS = {
     "values": Refusal(21, "values", 0),
     "verdicts": Refusal(21, "verdicts", 0),
+    "results": Refusal(21, "results", 0),
     "number": Refusal(23, "call", 0),
     "value": Refusal(18, "call", 0),
 }
@@ -263,10 +258,16 @@ def narrow_variables(run):
     return [i for i, width in enumerate(widths(run)) if width < 64]
 
 
-def possible_faults(run):
-    """The faults that a change in the run can have."""
-    can = {"values": run.file.variables, "verdicts": run.file.lines, "number": True, "value": narrow_variables(run)}
-    return [fault for fault in FAULTS if can[fault]]
+def possible_faults(run, tables=("values", "verdicts")):
+    """The faults that a change in the run can have, of these tables and its numbers."""
+    can = {"number": True, "value": narrow_variables(run)}
+    can |= {table: count for table, count in entries_in_use(run).items() if table in tables}
+    return [fault for fault in FAULTS if can.get(fault)]
+
+
+def entries_in_use(run):
+    lines = len(run.file.lines)
+    return {"values": len(run.file.variables), "verdicts": lines, "results": lines}
 
 
 def any_numbers(run, faults):
@@ -280,13 +281,17 @@ def any_numbers(run, faults):
     return variable, any_fit(run, variable)
 
 
+def first_fault(faults):
+    """The refusal of a change with these faults, or None."""
+    return next((FAULTS[fault] for fault in FAULTS if fault in faults), None)
+
+
 def make(run, faults, change=Run.change):
     """A change with these faults, of which the first refuses it."""
-    lengths = (len(run.file.variables), len(run.values)), (len(run.file.lines), len(run.verdicts))
-    lent = [any_lent(*length, table in faults) for length, table in zip(lengths, ("values", "verdicts"))]
+    tables = zip(entries_in_use(run).items(), run.tables(), (random, random, rooms))
+    lent = [any_lent(draws, used, len(table), name in faults) for (name, used), table, draws in tables]
     found = change(run, *any_numbers(run, faults), *lent)
-    first = next((FAULTS[fault] for fault in FAULTS if fault in faults), None)
-    assert not first or found == first, (faults, found)
+    assert not faults or found == first_fault(faults), (faults, found)
     return found
 
 
@@ -299,12 +304,16 @@ def wander(run, count):
 
 
 def blind(run, count):
-    """Random changes, whatever the constraint file and the tables are."""
+    """Random changes, whatever the constraint file and the tables are. A file that is read gets all results."""
     for _ in range(count):
         numbers = random.choice((0, 0, 1, MOST)), random.choice((0, 1, 7, MOST))
-        lengths = len(run.values), len(run.verdicts)
-        run.change(*numbers, *(random.choice((0, length, length, random.randint(0, length))) for length in lengths))
+        lent = any_length(random, len(run.values)), any_length(random, len(run.verdicts))
+        run.change(*numbers, *lent, any_length(rooms, len(run.results)) if isinstance(run.file, Refusal) else None)
     return run
+
+
+def any_length(draws, whole):
+    return draws.choice((0, whole, whole, draws.randint(0, whole)))
 
 
 # Random files.

@@ -4,15 +4,16 @@ program's report and the C call's number of the same files. Every run writes the
 
 usage: python3 tools/check_cases.py FOLDER
 
-A call starts with a line of 38 bytes: `k` and four numbers of eight hexadecimal digits, the lengths of the
-constraint file and of the answer and the entries of the lent value and verdict tables. Both files follow.
-The reply is five lines, or six where the report has two: what the check answers, both tables after it, the
+A call starts with a line of 47 bytes: `k` and five numbers of eight hexadecimal digits, the lengths of the
+constraint file and of the answer and the entries of the lent value, verdict and result tables. Both files follow.
+The reply is six lines, or seven where the report has two: what the check answers, the three tables after it, the
 report, and the number.
 """
 import sys
 from collections import Counter, namedtuple
 from itertools import product
 from pathlib import Path
+from random import Random
 
 sys.dont_write_bytecode = True  # no __pycache__ in the repository
 import answer_cases
@@ -25,6 +26,7 @@ import operator_vectors
 from answer_cases import (
     HEAD,
     LONG_NAMES,
+    MOST,
     MOST_BYTES,
     MOST_ENTRIES,
     NAME_32,
@@ -39,42 +41,58 @@ from answer_cases import (
     random,
     repeated,
     respelled,
-    table_after,
 )
 from answers import Refusal
 from constraint_cases import with_crs
 from constraints import VARIABLES, Line, is_predicate, unmarked
 from operators import DIVISIONS, OPERATORS, Word
 
-MOST_VERDICTS = 1100
-LENT_VERDICT = 7  # every entry of the verdict table before the call
+MOST_VERDICTS = MOST_RESULTS = 1100
+rooms = Random(4)  # draws of their own for the results' lengths, which leave all others as they are
 
-Case = namedtuple("Case", "constraint answer values verdicts")
+
+class Case(namedtuple("Case", "constraint answer values verdicts results")):
+    """Two files, and how many values, verdicts and results are lent; as many results as verdicts, if not said."""
+
+    def __new__(cls, constraint, answer, values, verdicts, results=None):
+        return super().__new__(cls, constraint, answer, values, verdicts, verdicts if results is None else results)
 
 
 # A call in the corpus, and its reply.
 
 
-def call(case):
+def start(kind, case):
+    """The first line of a call, and its files."""
     assert max(len(case.constraint), len(case.answer)) <= MOST_BYTES
-    assert 0 <= case.values <= MOST_ENTRIES and 0 <= case.verdicts <= MOST_VERDICTS
-    lengths = len(case.constraint), len(case.answer), case.values, case.verdicts
-    return answer_cases.header("k", *lengths) + case.constraint + case.answer
+    assert 0 <= case.values <= MOST_ENTRIES
+    assert 0 <= case.verdicts <= MOST_VERDICTS and 0 <= case.results <= MOST_RESULTS
+    lengths = len(case.constraint), len(case.answer), case.values, case.verdicts, case.results
+    return answer_cases.header(kind, *lengths) + case.constraint + case.answer
+
+
+def first_tables(case):
+    """What stands in the tables before the call: no two words alike, and verdicts that can't be held."""
+    values = [1000003 * (i + 1) for i in range(case.values)]
+    results = [MOST - 1000003 * i for i in range(case.results)]
+    return values, [7] * case.verdicts, results
 
 
 def tables_after(case, found):
-    """Both tables, of which the entries in use are overwritten where the call is not refused."""
-    values, verdicts = ([], []) if isinstance(found, Refusal) else (found.values, found.verdicts)
-    bytes_after = verdicts + [LENT_VERDICT] * (case.verdicts - len(verdicts))
-    return [table_after(case.values, values), "".join(f"{byte} " for byte in bytes_after).encode()]
+    """The three tables, of which the entries in use are overwritten where the call is not refused."""
+    used = ([], [], []) if isinstance(found, Refusal) else (found.values, found.verdicts, found.results)
+    return [front + table[len(front) :] for front, table in zip(used, first_tables(case))]
+
+
+def table_line(table):
+    return "".join(f"{entry} " for entry in table) + "\n"
 
 
 def reply(case):
     found = checks.check(*case)
-    tables = b"\n".join(tables_after(case, found)) + b"\n"
+    tables = "".join(map(table_line, tables_after(case, found)))
     report = checks.report(case.constraint, case.answer)
     number = checks.code(case.constraint, case.answer)
-    return checks.outcome(found).encode() + tables + f"{report}code {number}\n".encode()
+    return f"{checks.outcome(found)}{tables}{report}code {number}\n".encode()
 
 
 # Cases with the answer that they must get.
@@ -89,20 +107,23 @@ def expected(said, case):
 def accepted(said, constraint, text, values, verdicts):
     """An accepted check with so many variables and lines, whose tables may be longer."""
     spare, more = random.choices((0, 0, 1, 4), k=2)
-    return expected(said, Case(constraint.encode(), text.encode(), values + spare, verdicts + more))
+    lengths = values + spare, verdicts + more, verdicts + rooms.choice((0, 0, 1, 4))
+    return expected(said, Case(constraint.encode(), text.encode(), *lengths))
 
 
 def refused(number, subject, position, constraint, answer):
     """A refused file, with tables that may be too short."""
-    case = Case(constraint, answer, random.choice((0, 1, 4, 5)), random.choice((0, 1, 2, 5)))
-    return expected(f"refused {number} {subject} {position}", case)
+    lengths = random.choice((0, 1, 4, 5)), random.choice((0, 1, 2, 5)), rooms.choice((0, 1, 2, 5))
+    return expected(f"refused {number} {subject} {position}", Case(constraint, answer, *lengths))
 
 
-def sized(constraint, answer, steps=(0, 0)):
-    """A case with tables longer by the steps than their entries in use, or shorter."""
+def sized(constraint, answer, steps=(0, 0), more=None):
+    """A case with values and verdicts longer by the steps than their entries in use, or shorter, and that many
+    results more, or any that are enough."""
     file = answers.read_constraint(constraint)
-    lengths = (4, 4) if isinstance(file, Refusal) else (len(file.variables), len(file.lines))
-    return Case(constraint, answer, *(max(0, length + step) for length, step in zip(lengths, steps)))
+    used = (4, 4, 4) if isinstance(file, Refusal) else (len(file.variables), len(file.lines), len(file.lines))
+    steps = *steps, rooms.choice((0, 0, 0, 1, 7)) if more is None else more
+    return Case(constraint, answer, *(max(0, length + step) for length, step in zip(used, steps)))
 
 
 def any_steps():
@@ -325,16 +346,25 @@ def lengths_around(used, most):
     return sorted({0, max(0, used - 1), used, used + 1, most})
 
 
+LENT = ((3, "102"), (1, "0"), (0, "11"), (2, ""), (0, ""))  # how many variables, and the verdicts
+
+
+def lent(declared, pattern, values, verdicts, results):
+    """So many variables and lines with these verdicts, with tables of these lengths."""
+    constraint = "v 1.0\n" + "".join(f"d x{i}:i8\n" for i in range(declared)) + lent_lines(pattern)
+    text = "s SATISFIABLE\nv " + " ".join(f"x{i}={i}" for i in range(declared))
+    lines = len(pattern)
+    short = (values < declared and "values") or (verdicts < lines and "verdicts") or (results < lines and "results")
+    said = f"refused 21 {short} 0" if short else overall(pattern)
+    return expected(said, Case(constraint.encode(), text.encode(), values, verdicts, results))
+
+
 def lent_tables():
-    """Tables that are empty, one entry too short, exactly long enough, and longer."""
-    for declared, pattern in ((3, "102"), (1, "0"), (0, "11"), (2, ""), (0, "")):
-        constraint = "v 1.0\n" + "".join(f"d x{i}:i8\n" for i in range(declared)) + lent_lines(pattern)
-        text = "s SATISFIABLE\nv " + " ".join(f"x{i}={i}" for i in range(declared))
+    """Values and verdicts that are empty, one entry too short, exactly long enough, and longer."""
+    for declared, pattern in LENT:
         around = lengths_around(declared, MOST_ENTRIES), lengths_around(len(pattern), MOST_VERDICTS)
         for values, verdicts in product(*around):
-            short = (values < declared and "values") or (verdicts < len(pattern) and "verdicts")
-            said = f"refused 21 {short} 0" if short else overall(pattern)
-            yield expected(said, Case(constraint.encode(), text.encode(), values, verdicts))
+            yield lent(declared, pattern, values, verdicts, len(pattern) + rooms.choice((0, 0, 1, 4)))
 
 
 # Files with nothing in them to check.
@@ -508,6 +538,55 @@ def most_names():
 CROWDS = [crowded_files, most_names]
 
 
+# Tables of results.
+
+
+def lent_results():
+    """Results as the other tables before, beside these one entry too short and exactly long enough."""
+    for declared, pattern in LENT:
+        lines = len(pattern)
+        around = {max(0, declared - 1), declared}, {max(0, lines - 1), lines}, {*lengths_around(lines, lines + 40)}
+        for lengths in product(*map(sorted, around)):
+            yield lent(declared, pattern, *lengths)
+    yield lent(3, "102", 3, 3, MOST_RESULTS)
+
+
+def known_results():
+    """Each line that answers.py has worked out by itself, then all of them in one file."""
+    sets = " ".join(f"{name}={value}" for name, value in zip("abxt", answers.WORKED_VALUES))
+    text = f"s SATISFIABLE\nv {sets}\n"
+    lines = [([line], [verdict], [result]) for line, verdict, result in answers.WORKED_OUT]
+    lines.append(tuple(map(list, zip(*answers.WORKED_OUT))))
+    for spelled_lines, verdicts, results in lines:
+        constraint = answers.WORKED_HEAD + "\n".join(spelled_lines)
+        case = accepted(answers.overall(verdicts), constraint, text, 4, len(verdicts))
+        assert checks.check(*case).results == results, (case, results)
+        yield case
+
+
+DIFFERENCES = b"v 1.0\nd x:i64\n" + b"".join(b"c x - %d:i64 x\n" % i for i in range(1, 1025))
+
+
+def most_results():
+    """1,024 lines that come to as many words, with too few results, enough and more."""
+    text = b"s SATISFIABLE\nv x=%d\n"
+    for value, results in ((2**63, 1024), (3, MOST_RESULTS)):
+        yield expected("violated 1", Case(DIFFERENCES, text % value, 1, 1024, results))
+    yield expected("refused 21 results 0", Case(DIFFERENCES, text % 3, 1, 1024, 1023))
+
+
+def random_results():
+    """Random instances with any lengths."""
+    for _ in range(12):
+        constraint, values = any_inhabited()
+        for others in (values, nearly(constraint, values), any_fitting(constraint)):
+            steps = random.choices((-1, 0, 0, 0, 1, 7), k=2)
+            yield sized(constraint, any_answer(constraint, others), steps, random.choice((-9, -1, 0, 0, 1, 7)))
+
+
+RESULTS = [lent_results, known_results, most_results, random_results]
+
+
 # The corpus.
 
 GROUPS = [whole_case, table_cases, decided_lines, constraint_operators, predicate_operators, neighbours]
@@ -516,7 +595,7 @@ GROUPS += [most_variables, most_lines, names_and_widths, random_checks]
 
 # Every answer that the check can give: the numbers by subject, and the verdicts.
 REFUSALS = {subject: numbers for (kind, subject), numbers in answer_cases.REFUSALS.items() if kind == "r"}
-REFUSALS["verdicts"] = {21}
+REFUSALS["verdicts"] = REFUSALS["results"] = {21}
 MOST_STDIN = 1500000
 
 
@@ -524,8 +603,8 @@ def cases():
     found = list(dict.fromkeys(case for group in GROUPS for case in group()))
     with_line_ends = [case for group in LINE_ENDS for case in group()]
     again = repeated(lambda case: checks.check(*case), found)
-    crowded = (case for group in CROWDS for case in group())
-    return list(dict.fromkeys([*found, *with_line_ends, *again, *crowded]))
+    others = (case for group in CROWDS + RESULTS for case in group())
+    return list(dict.fromkeys([*found, *with_line_ends, *again, *others]))
 
 
 def outcome_counts(every):
@@ -550,7 +629,7 @@ def main(folder):
     overalls, refusals = outcome_counts(every)
     assert set(overalls) == set(checks.CODES)
     assert {subject: set(numbers) for subject, numbers in refusals.items()} == REFUSALS
-    stdin = b"".join(map(call, every))
+    stdin = b"".join(start("k", case) for case in every)
     assert len(stdin) < MOST_STDIN, len(stdin)
     Path(folder, "stdin").write_bytes(stdin)
     Path(folder, "stdout").write_bytes(b"".join(map(reply, every)))

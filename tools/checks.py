@@ -1,8 +1,8 @@
 #!/usr/bin/env python3
-"""The check, the program's report and the C call, by document 01 and apart from the Rattle code.
+"""The check, the program's report and the C call, by documents 01 and 02 and apart from the Rattle code.
 
-check(constraint, answer, values_length, verdicts_length) gives the Checked that a check answers which is lent
-tables of these lengths, or its Refusal. report(constraint, answer) gives the program's text, and
+check(constraint, answer, values_length, verdicts_length, results_length) gives the Checked that a check answers
+which is lent tables of these lengths, or its Refusal. report(constraint, answer) gives the program's text, and
 code(constraint, answer) the number of the C call. `--self-test` checks the document's own cases and edges.
 """
 import sys
@@ -13,25 +13,27 @@ import answers
 from answers import SET, WHOLE, Refusal
 from constraints import LINES, VARIABLES
 
-Checked = namedtuple("Checked", "overall values verdicts")
+Checked = namedtuple("Checked", "overall values verdicts results")
 CODES = {"satisfied": 0, "violated": 1, "disregarded": 2}
 
 
-def check(constraint, answer, values_length, verdicts_length):
-    """Refused in this order: constraint file, answer, 21 for the values, 21 for the verdicts."""
+def check(constraint, answer, values_length, verdicts_length, results_length):
+    """Refused in this order: constraint file, answer, 21 for the values, for the verdicts, for the results."""
     values = answers.read(constraint, answer, values_length)
     if isinstance(values, Refusal):
         return values
     file = answers.read_constraint(constraint)
     if verdicts_length < len(file.lines):
         return Refusal(21, "verdicts", 0)
+    if results_length < len(file.lines):
+        return Refusal(21, "results", 0)
     verdicts = answers.all_verdicts(file, values)
-    return Checked(answers.overall(verdicts), values, verdicts)
+    return Checked(answers.overall(verdicts), values, verdicts, answers.all_results(file, values))
 
 
 def check_roomy(constraint, answer):
     """The check with tables for every file within the limits, as the program and the C call have them."""
-    return check(constraint, answer, VARIABLES, LINES)
+    return check(constraint, answer, VARIABLES, LINES, LINES)
 
 
 def outcome(found):
@@ -79,11 +81,16 @@ def self_test():
     for text, number, constraint, answer in REPORTED:
         assert report(constraint, answer) == text, (constraint, answer, report(constraint, answer))
         assert code(constraint, answer) == number, (constraint, answer, code(constraint, answer))
-    violated = Checked("violated 1", [17056, 17060, 1118061216], [0])
-    assert check(WHOLE, SET % 1118061216, 3, 1) == violated
-    assert check(WHOLE, SET % 1118061216, 2, 0) == (21, "values", 0)
-    assert check(WHOLE, SET % 1118061216, 3, 0) == (21, "verdicts", 0)
-    assert check(WHOLE, b"s UNKNOWN\n", 0, 0) == (17, "answer", 2)
+    violated = Checked("violated 1", [17056, 17060, 1118061216], [0], [1117799076])
+    assert check(WHOLE, SET % 1118061216, 3, 1, 1) == violated
+    assert check(WHOLE, SET % 1118061216, 2, 0, 0) == (21, "values", 0)
+    assert check(WHOLE, SET % 1118061216, 3, 0, 0) == (21, "verdicts", 0)
+    assert check(WHOLE, SET % 1118061216, 3, 1, 0) == (21, "results", 0)
+    assert check(WHOLE, b"s UNKNOWN\n", 0, 0, 0) == (17, "answer", 2)
+    divided = Checked("disregarded 2", [7, 0], [0, 2, 0, 2, 1], [0, 0, 0, 0, 1])
+    assert check(DIVIDED, b"s SATISFIABLE\nv a=7 b=0", 2, 5, 5) == divided
+    divided = Checked("violated 1", [7, 3], [0, 0, 0, 0, 1], [0, 2, 0, 255, 1])
+    assert check(DIVIDED.replace(b"%s a", b"- 2:i8"), b"s SATISFIABLE\nv a=7 b=3", 2, 6, 9) == divided
 
 
 if __name__ == "__main__":

@@ -12,7 +12,6 @@ import indexes
 from answer_cases import MOST, any_answer, any_fitting, random
 from answers import Refusal
 from change_runs import (
-    FAULTS,
     MOST_LISTS,
     MOST_STARTS,
     UNSET,
@@ -28,6 +27,7 @@ from change_runs import (
     widths,
 )
 from changes import Changed
+from check_cases import rooms
 from constraint_cases import mixed, with_crs
 from constraints import unmarked
 from indexes import Index, Indexed
@@ -188,7 +188,8 @@ def refused_run(number, data, position):
     run = sized(data, random.choice((*UNSET, b"s SATISFIABLE\n")))
     for room in ((0, 0), (9, 9)):
         run.build(*room)
-        run.through(random.choice((0, 1, MOST)), random.choice((0, 1, MOST)), *random.choice(((0, 0), (4, 4), (0, 4))))
+        numbers = random.choice((0, 1, MOST)), random.choice((0, 1, MOST))
+        run.through(*numbers, *random.choice(((0, 0), (4, 4), (0, 4))), rooms.choice((0, 4)))
     assert set(run.found) == {Refusal(number, "constraint", position)}, run.found
     return run
 
@@ -399,7 +400,7 @@ def orders():
         for table in held:
             run.store(table, *HELD[table])
         run.lay(*index)
-        for faults in subsets(tuple(FAULTS)):
+        for faults in subsets(possible_faults(run)):
             found = make(run, faults, Run.through)
             last = held_refusal(held) or wrong
             assert faults or (found == last if last else isinstance(found, Changed)), (found, last)

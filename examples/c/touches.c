@@ -78,11 +78,12 @@ static bool change(size_t answer_len, size_t variable, uint64_t value)
 {
     static uint64_t values[VARIABLES];
     static uint8_t verdicts[LINES];
+    static uint64_t results[LINES];
     uint64_t word = spear_check_tables(constraints, constraints_len, answer, answer_len, values,
-                                       VARIABLES, verdicts, LINES);
+                                       VARIABLES, verdicts, LINES, results, LINES);
     if (SPEAR_KIND(word) != SPEAR_KIND_REFUSED)
         word = spear_change_through(constraints, constraints_len, values, VARIABLES, verdicts, LINES,
-                                    starts, VARIABLES + 1, lists, LISTED, variable, value);
+                                    results, LINES, starts, VARIABLES + 1, lists, LISTED, variable, value);
     print_word(word);
     return SPEAR_KIND(word) != SPEAR_KIND_REFUSED;
 }

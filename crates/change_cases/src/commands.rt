@@ -1,16 +1,16 @@
-// The commands of a run: lines of 54 bytes with a letter, two numbers of 16 hexadecimal digits and two of eight.
+// The commands of a run: lines of 63 bytes with a letter, two numbers of 16 hexadecimal digits and three of eight.
 //
-// `c`: a change; the variable, the value, and how many values and verdicts are lent.
+// `c`: a change; the variable, the value, and how many values, verdicts and results are lent.
 // `t`: the same through the index that is lent.
-// `n`: lends an index from now on; the last two numbers are how many starts and lists.
+// `n`: lends an index from now on; the third and the fourth number are how many starts and lists.
 // `b`: builds the file's index into what is lent.
-// `s`, `l`, `v`, `w`: stores the second number at the place that the first one says, in the starts, the lists, the values or the verdicts.
+// `s`, `l`, `v`, `w`, `u`: stores the second number at the place that the first one says, in the starts, the lists, the values, the verdicts or the results.
 // `e` ends the run.
 ghost use Prim.Native.Nat.{_≤_};
 use super::entries::print_numbers;
 use super::entries::store_number;
-use super::entries::store_value;
 use super::entries::store_verdict;
+use super::entries::store_word;
 use index::IndexReply;
 use index::index;
 use libc::STDOUT_FILENO;
@@ -19,9 +19,9 @@ use moves::runs::change_front;
 use moves::runs::change_front_through;
 use verdict_printing::print_overall;
 
-const COMMAND: usize = 54;
+const COMMAND: usize = 63;
 
-// Where the four numbers stand.
+// Where the five numbers stand.
 const FIRST: usize = 2;
 
 const SECOND: usize = 19;
@@ -30,7 +30,9 @@ const THIRD: usize = 36;
 
 const FOURTH: usize = 45;
 
-// The digits of the last two, and of the first two.
+const FIFTH: usize = 54;
+
+// The digits of the last three, and of the first two.
 const NUMBER: usize = 8;
 
 const LONG_NUMBER: usize = 16;
@@ -41,6 +43,7 @@ struct Command {
     second: u64,
     third: usize,
     fourth: usize,
+    fifth: usize,
 }
 
 // How much of an index is lent.
@@ -56,6 +59,7 @@ fn read_command(line: &[u8; COMMAND]) -> Command {
         second: reporting::hex(line, SECOND, SECOND + LONG_NUMBER),
         third: reporting::hex(line, THIRD, THIRD + NUMBER) as usize,
         fourth: reporting::hex(line, FOURTH, FOURTH + NUMBER) as usize,
+        fifth: reporting::hex(line, FIFTH, FIFTH + NUMBER) as usize,
     }
 }
 
@@ -105,13 +109,21 @@ fn print_building(reply: IndexReply) {
     io::write_all(STDOUT_FILENO, b"\n");
 }
 
-fn change_plainly(c: Command, constraint: &[u8], values: &mut [u64], verdicts: &mut [u8]) {
+fn change_plainly(
+    c: Command,
+    constraint: &[u8],
+    values: &mut [u64],
+    verdicts: &mut [u8],
+    results: &mut [u64],
+) {
     print_change(change_front(
         constraint,
         values,
         c.third,
         verdicts,
         c.fourth,
+        results,
+        c.fifth,
         c.first,
         c.second,
     ));
@@ -122,6 +134,7 @@ fn change_through_lent(
     constraint: &[u8],
     values: &mut [u64],
     verdicts: &mut [u8],
+    results: &mut [u64],
     starts: &[u32],
     lists: &[u32],
     lent: Lent,
@@ -134,6 +147,8 @@ fn change_through_lent(
         c.third,
         verdicts,
         c.fourth,
+        results,
+        c.fifth,
         &starts[..s],
         &lists[..l],
         c.first,
@@ -154,19 +169,30 @@ fn obey(
     constraint: &[u8],
     values: &mut [u64],
     verdicts: &mut [u8],
+    results: &mut [u64],
     starts: &mut [u32],
     lists: &mut [u32],
     lent: Lent,
 ) -> Lent {
     let letter = c.letter;
     match letter {
-        b'c' => change_plainly(c, constraint, values, verdicts),
-        b't' => change_through_lent(c, constraint, values, verdicts, starts, lists, lent),
+        b'c' => change_plainly(c, constraint, values, verdicts, results),
+        b't' => change_through_lent(
+            c,
+            constraint,
+            values,
+            verdicts,
+            results,
+            starts,
+            lists,
+            lent,
+        ),
         b'b' => build(constraint, starts, lists, lent),
         b's' => store_number(starts, c.first, c.second),
         b'l' => store_number(lists, c.first, c.second),
-        b'v' => store_value(values, c.first, c.second),
+        b'v' => store_word(values, c.first, c.second),
         b'w' => store_verdict(verdicts, c.first, c.second),
+        b'u' => store_word(results, c.first, c.second),
         b'n' => {
             return Lent {
                 starts: c.third,
@@ -184,6 +210,7 @@ pub(crate) fn obey_all(
     constraint: &[u8],
     values: &mut [u64],
     verdicts: &mut [u8],
+    results: &mut [u64],
     starts: &mut [u32],
     lists: &mut [u32],
 ) -> Lent {
@@ -197,7 +224,16 @@ pub(crate) fn obey_all(
         if c.letter == b'e' {
             return lent;
         }
-        lent = obey(c, constraint, values, verdicts, starts, lists, lent);
+        lent = obey(
+            c,
+            constraint,
+            values,
+            verdicts,
+            results,
+            starts,
+            lists,
+            lent,
+        );
         turns -= 1;
     }
     lent

@@ -48,9 +48,9 @@ pub(crate) fn store_number(table: &mut [u32], at: usize, number: u64) {
     }
 }
 
-pub(crate) fn store_value(values: &mut [u64], at: usize, value: u64) {
-    if at < values.len() {
-        values[at] = value;
+pub(crate) fn store_word(table: &mut [u64], at: usize, word: u64) {
+    if at < table.len() {
+        table[at] = word;
     }
 }
 

@@ -1,8 +1,8 @@
 // Replays runs of changes from standard input: prints what the check answers, what each command answers, and what is left in the tables.
 // tools/change_cases.py writes the runs and, by a model of its own, the answers.
 //
-// A run is a line of 38 bytes with `r` and four numbers of eight hexadecimal digits, and the bytes of two files:
-// the numbers are the lengths of the constraint file and of the answer, and the entries of the value table and of the verdict table.
+// A run is a line of 47 bytes with `r` and five numbers of eight hexadecimal digits, and the bytes of two files:
+// the numbers are the lengths of the constraint file and of the answer, and the entries of the tables of values, verdicts and results.
 // Then commands, up to one that ends the run: commands.rt has them.
 ghost use Rattle.reporting.specs.CaseRooms.{Fitted};
 use commands::obey_all;
@@ -11,6 +11,7 @@ use entries::fill_numbers;
 use reporting::cases::FILE;
 use reporting::cases::NO_VERDICT;
 use reporting::cases::NextCase;
+use reporting::cases::RESULTS;
 use reporting::cases::Sizes;
 use reporting::cases::VALUES;
 use reporting::cases::VERDICTS;
@@ -28,17 +29,43 @@ const STARTS: usize = 300;
 
 const LISTS: usize = 4200;
 
+// Fills the tables, and prints what the check answers.
+fn begin(
+    constraint: &[u8],
+    answer: &[u8],
+    values: &mut [u64],
+    verdicts: &mut [u8],
+    results: &mut [u64],
+) {
+    reporting::fill(values);
+    reporting::fill_down(results);
+    print_reply(check(constraint, answer, values, verdicts, results));
+}
+
 // The index is printed only where a part of it is lent.
-fn replay(constraint: &[u8], answer: &[u8], values: &mut [u64], verdicts: &mut [u8]) {
+fn replay(
+    constraint: &[u8],
+    answer: &[u8],
+    values: &mut [u64],
+    verdicts: &mut [u8],
+    results: &mut [u64],
+) {
     let mut starts = [0u32; STARTS];
     let mut lists = [0u32; LISTS];
     fill_numbers(&mut starts);
     fill_numbers(&mut lists);
-    reporting::fill(values);
-    print_reply(check(constraint, answer, values, verdicts));
-    let lent = obey_all(constraint, values, verdicts, &mut starts, &mut lists);
+    begin(constraint, answer, values, verdicts, results);
+    let lent = obey_all(
+        constraint,
+        values,
+        verdicts,
+        results,
+        &mut starts,
+        &mut lists,
+    );
     reporting::print_table(values);
     print_verdicts(verdicts);
+    reporting::print_table(results);
     if lent.starts > 0 || lent.lists > 0 {
         print_lent(&starts, &lists, lent);
     }
@@ -50,11 +77,12 @@ fn replay_run(
     answer: &mut [u8],
     values: &mut [u64],
     verdicts: &mut [u8],
+    results: &mut [u64],
 ) -> bool {
     if !next_both(constraint, answer) {
         return false;
     }
-    replay(constraint, answer, values, verdicts);
+    replay(constraint, answer, values, verdicts, results);
     true
 }
 
@@ -65,15 +93,18 @@ fn run(sizes: Sizes) -> bool
     let mut answer = [0u8; FILE];
     let mut values = [0u64; VALUES];
     let mut verdicts = [NO_VERDICT; VERDICTS];
+    let mut results = [0u64; RESULTS];
     let n = sizes.constraint;
     let m = sizes.answer;
     let p = sizes.values;
     let q = sizes.verdicts;
+    let s = sizes.results;
     replay_run(
         &mut constraint[..n],
         &mut answer[..m],
         &mut values[..p],
         &mut verdicts[..q],
+        &mut results[..s],
     )
 }
 

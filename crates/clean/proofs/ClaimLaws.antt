@@ -11,6 +11,7 @@ use Rattle.refusal.specs.Result.{Result, accepted, refused, _>>=_}
 use Rattle.refusal.proofs.ResultLaws.{never, Yields, yields-accepted, yields-bind, yields-ensure, yields-itself}
 use Rattle.constraint.specs.File.{File}
 use Rattle.constraint.specs.Read.{readFile}
+use Rattle.judge.specs.InUse.{roomOf}
 use Rattle.tables.specs.Check.{checkingFor, checking, checked}
 use Rattle.printing.specs.declared.WriteReply.the-variants.{Written}
 use Rattle.printing.specs.Output.{WriteOutcome, roomFor, written}
@@ -55,8 +56,8 @@ reads-back constraint text c = let o = clean-of c in (o .file, o .is-read, reads
 
 pub same-verdicts : SameVerdicts
 unfolding checking
-same-verdicts constraint text c answer values verdicts =
-    ap (λ r. checked values verdicts (r >>= λ f. checkingFor f answer values verdicts >>= λ row. accepted (f, row))) (reads-same c)
+same-verdicts constraint text c answer t =
+    ap (λ r. checked t (r >>= λ f. checkingFor f answer (roomOf t) >>= λ row. accepted (f, row))) (reads-same c)
 
 pub clean-again : CleanAgain
 unfolding cleaning

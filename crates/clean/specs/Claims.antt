@@ -7,6 +7,7 @@ use lib.ListN.{length, drop}
 use Rattle.refusal.specs.Result.{accepted}
 use Rattle.constraint.specs.File.{File}
 use Rattle.constraint.specs.Read.{readFile}
+use Rattle.judge.specs.InUse.{Tables}
 use Rattle.tables.specs.Check.{checkOutcome}
 use Rattle.printing.specs.declared.WriteReply.the-variants.{Written}
 use Rattle.clean.specs.Clean.{cleanOutcome}
@@ -25,8 +26,8 @@ abbrev pub SameVerdicts : Type 0
 SameVerdicts =
     (constraint text : List ℕ)
     → Cleans constraint text
-    → (answer values verdicts : List ℕ)
-    → checkOutcome text answer values verdicts ≡ checkOutcome constraint answer values verdicts
+    → (answer : List ℕ) (t : Tables)
+    → checkOutcome text answer t ≡ checkOutcome constraint answer t
 
 -- "cleaning it again changes nothing": the call answers, and leaves, the same for the text as for the file, in any room
 abbrev pub CleanAgain : Type 0

@@ -7,3 +7,4 @@ pub mod VerdictLaws
 pub mod ResultLaws
 pub mod OverallLaws
 pub mod HeldLaws
+pub mod RoomLaws

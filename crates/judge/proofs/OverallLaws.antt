@@ -17,7 +17,7 @@ use Rattle.constraint.specs.File.{Variable, target}
 use Rattle.constraint.specs.Sound.{Each}
 use Rattle.judge.specs.declared.Overall.{Overall}
 use Rattle.judge.specs.declared.Overall.the-variants.{Satisfied, Violated, Disregarded}
-use Rattle.judge.specs.Judge.{verdictViolated, verdictHolds, verdictDisregarded, resultOf, judged, judge, verdictsOf, firstVerdict, overallBy, overallOf}
+use Rattle.judge.specs.Judge.{verdictViolated, verdictHolds, verdictDisregarded, resultOf, judged, judge, columnOf, verdictsOf, firstVerdict, overallBy, overallOf}
 
 -- ---- a verdict that was found, or is among those from i on
 module _ (v : ℕ) (vs : List ℕ) (i : ℕ) (found : Bool) where
@@ -85,13 +85,16 @@ module _ (xs : List Variable) (row : List ℕ) where
   unfolding judge
   line-holds l = judged-holds (resultOf xs row l) (target xs row (l .output) .value)
 
-  verdict-holds : (l : Line) → Holds l → judge xs row l .verdict ≡ verdictHolds
+  pub holds-by-verdict : (l : Line) → judge xs row l .verdict ≡ verdictHolds → Holds l
+  holds-by-verdict l e = line-holds l (rw e) (rw e)
+
+  pub verdict-holds : (l : Line) → Holds l → judge xs row l .verdict ≡ verdictHolds
   unfolding judge
   verdict-holds l h = rw (h, eq-eqb (target xs row (l .output) .value) (target xs row (l .output) .value) refl)
 
   -- no verdict is 2 and none is 0, exactly where each line holds
   lines-hold : (n : ℕ) (ls : List Line) → firstFrom (eqb verdictDisregarded) n (verdictsOf xs row ls) ≡ none → firstFrom (eqb verdictViolated) n (verdictsOf xs row ls) ≡ none → Each Holds ls
-  unfolding verdictsOf
+  unfolding columnOf
   lines-hold n [] d v = tt
   lines-hold n (l ∷ ls) d v =
       let p = first-none (eqb verdictDisregarded) n (judge xs row l .verdict) (verdictsOf xs row ls) d in
@@ -99,7 +102,7 @@ module _ (xs : List Variable) (row : List ℕ) where
       (line-holds l (p .0) (q .0), lines-hold (suc n) ls (p .1) (q .1))
 
   none-other : (v n : ℕ) (ls : List Line) → eqb v verdictHolds ≡ false → Each Holds ls → firstFrom (eqb v) n (verdictsOf xs row ls) ≡ none
-  unfolding verdictsOf firstFrom
+  unfolding columnOf firstFrom
   none-other v n [] e h = refl
   none-other v n (l ∷ ls) e h = rw (verdict-holds l (h .0), e) (none-other v (suc n) ls e (h .1))
 

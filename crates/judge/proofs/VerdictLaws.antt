@@ -1,4 +1,4 @@
--- The verdict on a line from what its operator answers, and the verdicts on all lines, put down one after the other. Assumes nothing.
+-- The verdict on a line from what its operator answers, and a column of all lines, put down one after the other. Assumes nothing.
 use Prim.Native.Nat.{ℕ, suc, _+_, _<_}
 use mathlib.Core.Path.{_≡_, refl, sym, _∙_}
 use mathlib.Core.List.{List, [], _∷_, _++_, map-append}
@@ -20,7 +20,8 @@ use Rattle.constraint.specs.Sound.{Each}
 use Rattle.constraint.proofs.EachLaws.{each-at}
 use Rattle.store.proofs.TableLaws.{getD-tabulate}
 use Rattle.store.proofs.LineTableLaws.{lines-length, lines-more}
-use Rattle.judge.specs.Judge.{verdictViolated, verdictHolds, verdictDisregarded, resultOf, judge, verdictsOf}
+use Rattle.judge.specs.declared.Judged.{Judged}
+use Rattle.judge.specs.Judge.{verdictViolated, verdictHolds, verdictDisregarded, resultOf, judge, columnOf}
 use Rattle.judge.specs.Fitting.{Fitting}
 
 -- ---- one line
@@ -61,9 +62,9 @@ module _ (xs : List Variable) (row : List ℕ) (l : Line) (h : Fitting xs row l)
     judge-violated q = rw (← answered, e, ne-eqb r (target xs row (l .output) .value) q)
 
 -- ---- all lines
-pub verdicts-length : (xs : List Variable) (row : List ℕ) (ls : List Line) → length (verdictsOf xs row ls) ≡ length ls
-unfolding verdictsOf
-verdicts-length xs row ls = length-map ls (λ l. judge xs row l .verdict)
+pub column-length : (part : Judged → ℕ) (xs : List Variable) (row : List ℕ) (ls : List Line) → length (columnOf part xs row ls) ≡ length ls
+unfolding columnOf
+column-length part xs row ls = length-map ls (λ l. part (judge xs row l))
 
 -- what holds of each line in the tables holds of line i
 pub each-line : (P : Line → Type 0) (heads bodies : List ℕ) (n i : ℕ) → Each P (linesIn heads bodies n) → i < n → P (lineIn heads bodies i)
@@ -71,16 +72,16 @@ unfolding linesIn
 each-line P heads bodies n i h p =
     rw (getD-tabulate (lineIn heads bodies) n i (lineIn heads bodies 0) p) at (each-at P (linesIn heads bodies n) i (lineIn heads bodies 0) h (omega (arith, lines-length heads bodies n)))
 
-module _ (xs : List Variable) (row heads bodies : List ℕ) (i : ℕ) where
-  verdicts-more : verdictsOf xs row (linesIn heads bodies (i + 1)) ≡ verdictsOf xs row (linesIn heads bodies i) ++ (judge xs row (lineIn heads bodies i) .verdict ∷ [])
-  unfolding verdictsOf
-  verdicts-more = rw (lines-more heads bodies i) (map-append (λ l. judge xs row l .verdict) (linesIn heads bodies i) (lineIn heads bodies i ∷ []))
+module _ (part : Judged → ℕ) (xs : List Variable) (row heads bodies : List ℕ) (i : ℕ) where
+  column-more : columnOf part xs row (linesIn heads bodies (i + 1)) ≡ columnOf part xs row (linesIn heads bodies i) ++ (part (judge xs row (lineIn heads bodies i)) ∷ [])
+  unfolding columnOf
+  column-more = rw (lines-more heads bodies i) (map-append (λ l. part (judge xs row l)) (linesIn heads bodies i) (lineIn heads bodies i ∷ []))
 
-  -- the verdict on line i, put behind those before it
-  pub verdict-put : (verdicts : List ℕ) → i < length verdicts → set (verdictsOf xs row (linesIn heads bodies i) ++ drop i verdicts) i (judge xs row (lineIn heads bodies i) .verdict) ≡ verdictsOf xs row (linesIn heads bodies (i + 1)) ++ drop (i + 1) verdicts
-  verdict-put verdicts h =
-      let vs = verdictsOf xs row (linesIn heads bodies i) in
-      let v = judge xs row (lineIn heads bodies i) .verdict in
-      let l : length vs ≡ i = verdicts-length xs row (linesIn heads bodies i) ∙ lines-length heads bodies i in
-      rw (drop-cons verdicts i 0 h, verdicts-more, add-one i)
-      (set-at vs (getD verdicts i 0) (drop (suc i) verdicts) v i l ∙ sym (append-snoc vs v (drop (suc i) verdicts)))
+  -- the entry of line i, put behind those before it
+  pub column-put : (held : List ℕ) → i < length held → set (columnOf part xs row (linesIn heads bodies i) ++ drop i held) i (part (judge xs row (lineIn heads bodies i))) ≡ columnOf part xs row (linesIn heads bodies (i + 1)) ++ drop (i + 1) held
+  column-put held h =
+      let vs = columnOf part xs row (linesIn heads bodies i) in
+      let v = part (judge xs row (lineIn heads bodies i)) in
+      let l : length vs ≡ i = column-length part xs row (linesIn heads bodies i) ∙ lines-length heads bodies i in
+      rw (drop-cons held i 0 h, column-more, add-one i)
+      (set-at vs (getD held i 0) (drop (suc i) held) v i l ∙ sym (append-snoc vs v (drop (suc i) held)))

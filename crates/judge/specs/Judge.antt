@@ -1,4 +1,4 @@
--- The verdicts on the lines of a file under a row of values, one for each variable in declaration order.
+-- The verdicts on the lines of a file under a row of values, one for each variable in declaration order, and the lines' results.
 use Prim.Native.Nat.{ℕ}
 use mathlib.Core.Bool.{cond}
 use mathlib.Core.List.{List, map}
@@ -35,13 +35,23 @@ judged (some r) goal = record { verdict = cond (eqb r goal) verdictHolds verdict
 unfoldable pub judge : List Variable → List ℕ → Line → Judged
 judge xs row l = judged (resultOf xs row l) (target xs row (l .output) .value)
 
--- the verdicts on lines
-unfoldable pub verdictsOf : List Variable → List ℕ → List Line → List ℕ
-verdictsOf xs row = map (λ l. judge xs row l .verdict)
+-- a column of a table of lines: one part of what each line is judged
+unfoldable pub columnOf : (Judged → ℕ) → List Variable → List ℕ → List Line → List ℕ
+columnOf part xs row = map (λ l. part (judge xs row l))
 
--- a row's verdicts, "worked out anew for every line by the meanings": the fresh check
+-- the verdicts on lines, and "the operator's result as a 64-bit word: for a `p` line 0 or 1, for a disregarded line 0"
+abbrev pub verdictsOf : List Variable → List ℕ → List Line → List ℕ
+verdictsOf = columnOf (λ j. j .verdict)
+
+abbrev pub resultsOf : List Variable → List ℕ → List Line → List ℕ
+resultsOf = columnOf (λ j. j .result)
+
+-- those of a row, "worked out anew for every line by the meanings": the fresh check
 abbrev pub freshVerdicts : File → List ℕ → List ℕ
 freshVerdicts f row = verdictsOf (f .variables) row (f .lines)
+
+abbrev pub freshResults : File → List ℕ → List ℕ
+freshResults f row = resultsOf (f .variables) row (f .lines)
 
 -- the line, from 1, of the first verdict v
 unfoldable pub firstVerdict : ℕ → List ℕ → Option ℕ

@@ -1,7 +1,11 @@
-// Tests of the entries in use of a lent table of values.
+// Tests of lent tables: their room, and the values in use.
 use arithmetic::Word;
 use arithmetic::rules::fits;
 use edition::Edition;
+use refusal::Gate;
+use refusal::Refusal;
+use refusal::Subject;
+use refusal::bar;
 use store::Found;
 use store::variables::width_of;
 ghost use mathlib.Core.Path.{_≡_};
@@ -9,8 +13,26 @@ ghost use mathlib.Core.List.{List};
 ghost use Prim.Native.Nat.{ℕ, _≤_};
 ghost use lib.ListN.{length, take};
 ghost use Rattle.edition.specs.Edition.{maxVariables};
+ghost use Rattle.refusal.specs.Result.{gateResult};
+ghost use Rattle.constraint.specs.File.{File};
 ghost use Rattle.store.specs.Tables.{place, variablesIn};
-ghost use Rattle.judge.specs.InUse.{firstUnfit};
+ghost use Rattle.judge.specs.InUse.{firstUnfit, tablesRoom};
+
+// Whether tables of these lengths have room for n variables and m lines.
+pub fn tables_room(n: usize, m: usize, values: usize, verdicts: usize, results: usize) -> Gate
+    ensures { λ r. ⌜ ((f : File) → length (f .variables) ≡ n → length (f .lines) ≡ m → gateResult r ≡ tablesRoom f (record { values = values; verdicts = verdicts; results = results })) ⌝ }
+{
+    if values < n {
+        return bar(Refusal::TOO_SHORT, Subject::Values, 0);
+    }
+    if verdicts < m {
+        return bar(Refusal::TOO_SHORT, Subject::Verdicts, 0);
+    }
+    if results < m {
+        return bar(Refusal::TOO_SHORT, Subject::Results, 0);
+    }
+    Gate::Pass
+}
 
 // The first of the n values that does not fit its variable.
 pub fn first_unfit(variables: &[u64; Edition::VARIABLES], n: usize, values: &[u64]) -> Found

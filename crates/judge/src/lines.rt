@@ -1,4 +1,4 @@
-// The verdict on a stored line, and on all of them. The widths stand in the lines' heads: no table of variables is needed.
+// The verdict on a stored line with its result, and those on all of them. The widths stand in the lines' heads: no table of variables is needed.
 use super::Judged;
 use arithmetic::Word;
 use arithmetic::rules::I1;
@@ -23,7 +23,7 @@ ghost use lib.ListN.{length, getD, drop};
 ghost use Rattle.edition.specs.Edition.{maxLines};
 ghost use Rattle.constraint.specs.File.{Variable, operandWord, target as targetOf};
 ghost use Rattle.store.specs.Tables.{lineBodies, tableHeads, tableBodies, operandIn, lineIn, linesIn, HeadsFit, AllHeadsFit};
-ghost use Rattle.judge.specs.Judge.{judge, verdictsOf};
+ghost use Rattle.judge.specs.Judge.{judge, verdictsOf, resultsOf};
 ghost use Rattle.judge.specs.Fitting.{Judgeable};
 
 // The value of variable i, or 0.
@@ -114,21 +114,23 @@ pub fn judge_line<'a>(
     }
 }
 
-// Puts the verdicts on the first m lines of the table at the front of `verdicts`.
+// Puts the verdicts on the first m lines of the table at the front of `verdicts`, and their results at that of `results`.
 pub fn judge_all<'a>(
     heads: &'a [u8; TABLE_HEADS],
     bodies: &'a [u64; TABLE_BODIES],
     m: usize,
     row: &[u64],
     verdicts: &mut [u8],
+    results: &mut [u64],
 )
-    requires { ⌜ (m ≤ maxLines) × (length (now heads) ≡ tableHeads) × (length (now bodies) ≡ tableBodies) × (m ≤ length (now verdicts)) × ((k : ℕ) → k < m → Judgeable (now row) (now heads) (now bodies) k) ⌝ }
-    ensures { λ _. ⌜ ((xs : List Variable) → AllHeadsFit xs (now (heads .entry)) (now (bodies .entry)) m → now (verdicts .exit) ≡ verdictsOf xs (now (row .entry)) (linesIn (now (heads .entry)) (now (bodies .entry)) m) ++ drop m (now (verdicts .entry))) ⌝ }
+    requires { ⌜ (m ≤ maxLines) × (length (now heads) ≡ tableHeads) × (length (now bodies) ≡ tableBodies) × (m ≤ length (now verdicts)) × (m ≤ length (now results)) × ((k : ℕ) → k < m → Judgeable (now row) (now heads) (now bodies) k) ⌝ }
+    ensures { λ _. ⌜ ((xs : List Variable) → AllHeadsFit xs (now (heads .entry)) (now (bodies .entry)) m → (now (verdicts .exit) ≡ verdictsOf xs (now (row .entry)) (linesIn (now (heads .entry)) (now (bodies .entry)) m) ++ drop m (now (verdicts .entry))) × (now (results .exit) ≡ resultsOf xs (now (row .entry)) (linesIn (now (heads .entry)) (now (bodies .entry)) m) ++ drop m (now (results .entry)))) ⌝ }
 {
     let mut i = 0;
     while i < m {
         let judged = judge_line(row, heads, bodies, i);
         verdicts[i] = judged.verdict;
+        results[i] = judged.result;
         i += 1;
     }
 }

@@ -14,8 +14,8 @@ use Rattle.refusal.specs.Result.{Result, accepted, refused}
 use Rattle.arithmetic.specs.Bits.{differingBits}
 use Rattle.constraint.specs.File.{Variable, File, widthAt}
 use Rattle.judge.specs.declared.Overall.{Overall}
-use Rattle.judge.specs.Judge.{freshVerdicts, overallOf}
-use Rattle.judge.specs.InUse.{rowInUse}
+use Rattle.judge.specs.Judge.{freshVerdicts, freshResults, overallOf}
+use Rattle.judge.specs.InUse.{Tables, tablesOf, rowInUse, tablesRoom}
 use Rattle.judge.specs.Claims.{RowFits}
 use Rattle.judge.proofs.FitLaws.{row-fits}
 use Rattle.index.specs.Select.{naming}
@@ -25,10 +25,10 @@ use Rattle.index.specs.Internal.{fileOf}
 use Rattle.index.proofs.ListedLaws.{starts-there, starts-rise, starts-within, listed-fits}
 use Rattle.moves.specs.declared.Renewal.{Renewal}
 use Rattle.moves.specs.declared.ChangeReply.the-variants.{Changed, Refused}
-use Rattle.moves.specs.Step.{Tables, tablesOf, renewed, step}
+use Rattle.moves.specs.Step.{renewed, step}
 use Rattle.moves.specs.Gate.{Call, changing, changeFits, entitled, admitted}
 use Rattle.moves.specs.Change.{Outcome, made, changed, changeFor}
-use Rattle.moves.specs.Internal.{Renewed, ListFitting}
+use Rattle.moves.specs.Internal.{columnsOf, freshColumns, renewedFront, Renewed, ListFitting}
 use Rattle.moves.proofs.GateLaws.{Sized, Admitted}
 use Rattle.moves.proofs.RenewLaws.{new-long}
 
@@ -49,7 +49,7 @@ module _ (f : File) (t : Tables) (i v : ℕ) where
   changed-bare x (refused r) = refl
 
   pub change-bare : (x : Option Index) → changeFor (fileOf (f .variables) (f .lines)) t (changing i v x) ≡ changeFor f t (changing i v x)
-  unfolding admitted entitled changeFits
+  unfolding admitted entitled tablesRoom changeFits
   change-bare none = changed-bare none (admitted f t (changing i v none))
   change-bare (some x) = changed-bare (some x) (admitted f t (changing i v (some x)))
 
@@ -71,18 +71,18 @@ fits-set xs row i v h p q j = elim (ℕ-discrete j i) [
   | no e ↦ rw (getD-set-other row i j v 0 e) (h j)
 ]
 
-module _ (f : File) (values verdicts : List ℕ) (i v : ℕ) (x : Option Index) (p : Admitted f (tablesOf values verdicts) (changing i v x)) where
-  row-long : length (rowInUse f values) ≡ length (f .variables)
-  row-long = length-take-le (length (f .variables)) values (p .is-entitled .values-room)
+module _ (f : File) (t : Tables) (i v : ℕ) (x : Option Index) (p : Admitted f t (changing i v x)) where
+  row-long : length (rowInUse f (t .values)) ≡ length (f .variables)
+  row-long = length-take-le (length (f .variables)) (t .values) (p .is-entitled .has-room .values)
 
   -- the value is put in in front of what is behind the row
-  pub values-stored : set (rowInUse f values) i v ++ drop (length (f .variables)) values ≡ set values i v
+  pub values-stored : set (rowInUse f (t .values)) i v ++ drop (length (f .variables)) (t .values) ≡ set (t .values) i v
   values-stored =
       let k = length (f .variables) in
-      sym (set-append-left (take k values) (drop k values) i v (rw row-long (p .is-entitled .variable))) ∙ ap (λ (l : List ℕ). set l i v) (take-append-drop k values)
+      sym (set-append-left (take k (t .values)) (drop k (t .values)) i v (rw row-long (p .is-entitled .variable))) ∙ ap (λ (l : List ℕ). set l i v) (take-append-drop k (t .values))
 
-  row-after : RowFits (f .variables) (set (rowInUse f values) i v)
-  row-after = fits-set (f .variables) (rowInUse f values) i v (row-fits (f .variables) (rowInUse f values) row-long (p .values-fit)) (rw row-long (p .is-entitled .variable)) (p .is-entitled .value)
+  row-after : RowFits (f .variables) (set (rowInUse f (t .values)) i v)
+  row-after = fits-set (f .variables) (rowInUse f (t .values)) i v (row-fits (f .variables) (rowInUse f (t .values)) row-long (p .values-fit)) (rw row-long (p .is-entitled .variable)) (p .is-entitled .value)
 
   -- ---- what an accepted change leaves, of n variables and m lines
   module _ (n m : ℕ) (sized : Sized f n m) where
@@ -90,23 +90,25 @@ module _ (f : File) (values verdicts : List ℕ) (i v : ℕ) (x : Option Index) 
     within = omega (arith, p .is-entitled .variable, sized .variables)
 
     -- the row in use, once the value is stored
-    row-stored : take n (set values i v) ≡ set (rowInUse f values) i v
-    row-stored = rw (sized .variables) (take-set-lt n values i v within)
+    row-stored : take n (set (t .values) i v) ≡ set (rowInUse f (t .values)) i v
+    row-stored = rw (sized .variables) (take-set-lt n (t .values) i v within)
 
-    pub stored-fits : RowFits (f .variables) (take n (set values i v))
+    pub stored-fits : RowFits (f .variables) (take n (set (t .values) i v))
     stored-fits = rw row-stored row-after
 
     -- the outcome, by what was worked out for it
-    pub made-is : (o : Overall) (r : Renewal) (after : List ℕ)
-        → Renewed (concerned f x i) (freshVerdicts f (take n (set values i v))) m verdicts after r
-        → o ≡ overallOf (take m after)
-        → _≡_ {A = Outcome} (record { reply = Changed (record { overall = o; named = r .named; altered = r .altered; bits = differingBits wordBits (getD values i 0) v }); tables = tablesOf (set values i v) after }) (made f (tablesOf values verdicts) (changing i v x))
+    pub made-is : (o : Overall) (r : Renewal) (verdicts results : List ℕ)
+        → Renewed (concerned f x i) (freshColumns f (take n (set (t .values) i v))) m (columnsOf (t .verdicts) (t .results)) (columnsOf verdicts results) r
+        → o ≡ overallOf (take m verdicts)
+        → _≡_ {A = Outcome} (record { reply = Changed (record { overall = o; named = r .named; altered = r .altered; bits = differingBits wordBits (getD (t .values) i 0) v }); tables = tablesOf (set (t .values) i v) verdicts results }) (made f t (changing i v x))
     unfolding made step
-    made-is o r after d e =
-        let row = set (rowInUse f values) i v in
-        let held = take m verdicts in
-        let held-long = length-take-le m verdicts (omega (arith, p .is-entitled .verdicts-room, sized .lines)) in
+    made-is o r verdicts results d e =
+        let row = set (rowInUse f (t .values)) i v in
+        let held = take m (t .verdicts) in
+        let held-long = length-take-le m (t .verdicts) (omega (arith, p .is-entitled .has-room .verdicts, sized .lines)) in
         let new = renewed (concerned f x i) (freshVerdicts f row) held in
-        let many : length new ≡ m = new-long f x i row held (held-long ∙ sym (sized .lines)) ∙ held-long in
-        let is : after ≡ new ++ drop m verdicts = rw row-stored at (d .made) in
-        rw (e, d .counted, rw row-stored at (d .differed), is, take-at new (drop m verdicts) m many, values-stored, sized .lines, getD-take (length (f .variables)) values i 0 (p .is-entitled .variable))
+        let many : length new ≡ m = new-long (λ j. j .verdict) f x i row held (held-long ∙ sym (sized .lines)) ∙ held-long in
+        let is = rw row-stored at (d .made) in
+        let verdicts-are : verdicts ≡ new ++ drop m (t .verdicts) = ap (λ c. c .verdicts) is in
+        let results-are : results ≡ renewedFront (concerned f x i) (freshResults f row) m (t .results) = ap (λ c. c .results) is in
+        rw (e, d .counted, rw row-stored at (d .differed), verdicts-are, results-are, take-at new (drop m (t .verdicts)) m many, values-stored, sized .lines, getD-take (length (f .variables)) (t .values) i 0 (p .is-entitled .variable))

@@ -18,10 +18,10 @@ use Rattle.spelling.specs.Operators.{bitwiseSpellings, predicateSpellings, arit
 use Rattle.constraint.specs.File.{File, variableNamed, widthAt}
 use Rattle.constraint.specs.Read.{inHeader, readSingle, versionOf, readVersion, declare, declareAll, readDeclarations, kindOf, readAs, readLine, readFile}
 use Rattle.judge.specs.declared.Overall.the-variants.{Satisfied}
-use Rattle.judge.specs.Judge.{verdictsOf, firstVerdict, overallOf}
+use Rattle.judge.specs.Judge.{columnOf, firstVerdict, overallOf}
+use Rattle.judge.specs.InUse.{Tables, tablesOf, tablesRoom}
 use Rattle.answer.specs.Read as answer
 use Rattle.tables.specs.Check.{checkingFor, checking}
-use Rattle.moves.specs.Step.{Tables, tablesOf}
 use Rattle.moves.specs.Gate.{changing, changeFits, entitled}
 use Rattle.moves.specs.Run.{Turn, ChangeCall, turnOutcome, outcomes, tablesAfter, modelRow}
 use Rattle.moves.specs.WholeRun.{AcceptedCheck, OfRun, DoesNothing, NotIdle, NotOnlyFirst}
@@ -46,26 +46,26 @@ down-read = refl
 
 -- the tables before and after the check, and with the switch up
 abbrev switchAt : ℕ → Tables
-switchAt v = tablesOf (v ∷ []) []
+switchAt v = tablesOf (v ∷ []) [] []
 
 switch-checked : AcceptedCheck switch switchDown (switchAt 0) switchFile (0 ∷ []) (switchAt 0)
-unfolding checking checkingFor verdictsOf firstVerdict overallOf firstFrom
+unfolding checking checkingFor tablesRoom columnOf firstVerdict overallOf firstFrom
 switch-checked = record { file-is-read = switch-read; answer-is-read = down-read; overall = Satisfied; call = rw (switch-read, down-read) }
 
 -- ---- two changes of it, lent the whole tables
 abbrev flip : ℕ → Turn
-flip v = record { call = changing 0 v none; lent = record { values = 1; verdicts = 0 } }
+flip v = record { call = changing 0 v none; lent = record { values = 1; verdicts = 0; results = 0 } }
 
 flip-of-run : (v : ℕ) → OfRun switchFile (switchAt 0) (flip v)
-flip-of-run v = record { values = omega arith; verdicts = omega arith; index = tt }
+flip-of-run v = record { within = record { values = omega arith; verdicts = omega arith; results = omega arith }; index = tt }
 
 -- a call that does nothing, lent the first entries, leaves the whole tables
 idle-turn : (change : ChangeCall) → DoesNothing change → (constraint : List ℕ) (t : Tables) (u : Turn) → turnOutcome change constraint t u .tables ≡ t
-idle-turn change idle constraint t u = rw (idle constraint _ (u .call), take-append-drop (u .lent .values) (t .values), take-append-drop (u .lent .verdicts) (t .verdicts))
+idle-turn change idle constraint t u = rw (idle constraint _ (u .call), take-append-drop (u .lent .values) (t .values), take-append-drop (u .lent .verdicts) (t .verdicts), take-append-drop (u .lent .results) (t .results))
 
 -- ---- the second change does nothing, but the model's puts the switch down
 pub not-only-first : NotOnlyFirst
-unfolding outcomes tablesAfter modelRow entitled changeFits widthAt verdictsOf
+unfolding outcomes tablesAfter modelRow entitled tablesRoom changeFits widthAt columnOf
 not-only-first calls meets idle =
     let one = turnOutcome (calls 0) switch (switchAt 0) (flip 1) in
     let up : one .tables ≡ switchAt 1 = meets switch switchDown (switchAt 0) switchFile (0 ∷ []) (switchAt 0) (flip 1 ∷ []) switch-checked (flip-of-run 1, tt) .tables-are in

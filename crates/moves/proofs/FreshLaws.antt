@@ -14,12 +14,14 @@ use Rattle.constraint.specs.declared.Operand.{Operand}
 use Rattle.constraint.specs.declared.Operand.the-variants.{Absent, Var, Const}
 use Rattle.constraint.specs.declared.Line.{Line}
 use Rattle.constraint.specs.File.{Variable, File, operandWord, target}
-use Rattle.judge.specs.Judge.{verdictViolated, verdictHolds, verdictDisregarded, resultOf, judged, judge, verdictsOf, freshVerdicts}
+use Rattle.judge.specs.declared.Judged.{Judged}
+use Rattle.judge.specs.Judge.{verdictViolated, verdictHolds, verdictDisregarded, resultOf, judged, judge, columnOf, verdictsOf}
+use Rattle.judge.specs.InUse.{freshTables}
 use Rattle.index.specs.Select.{isVariable, names, naming}
 use Rattle.index.specs.Index.{Index}
 use Rattle.index.specs.Claims.{OwnOrNone}
 use Rattle.index.proofs.OwnIndexLaws.{concerned-naming}
-use Rattle.moves.specs.Step.{freshTables, Change, renewed, step}
+use Rattle.moves.specs.Step.{Change, renewed, step}
 
 -- neither of two tests passes
 neither : (x y : Bool) → (x || y) ≡ false → (x ≡ false) × (y ≡ false)
@@ -61,14 +63,15 @@ renewed-all g old new (x ∷ xs) h = ap₂ (λ (z : ℕ) (zs : List ℕ). z ∷ 
     go true e = rw e
     go false e = rw e (h x e)
 
-renewed-fresh : (f : File) (row : List ℕ) (i v : ℕ) → renewed (naming f i) (freshVerdicts f (set row i v)) (freshVerdicts f row) ≡ freshVerdicts f (set row i v)
-unfolding naming verdictsOf
-renewed-fresh f row i v = renewed-all (names i) (λ l. judge (f .variables) row l .verdict) (λ l. judge (f .variables) (set row i v) l .verdict) (f .lines) (λ l e. ap (λ j. j .verdict) (judge-kept (f .variables) row i v l e))
+-- a column of it
+renewed-fresh : (part : Judged → ℕ) (f : File) (row : List ℕ) (i v : ℕ) → renewed (naming f i) (columnOf part (f .variables) (set row i v) (f .lines)) (columnOf part (f .variables) row (f .lines)) ≡ columnOf part (f .variables) (set row i v) (f .lines)
+unfolding naming columnOf
+renewed-fresh part f row i v = renewed-all (names i) (λ l. part (judge (f .variables) row l)) (λ l. part (judge (f .variables) (set row i v) l)) (f .lines) (λ l e. ap part (judge-kept (f .variables) row i v l e))
 
 -- so does a change through no index, or the file's own
 pub step-fresh : (f : File) (x : Option Index) → OwnOrNone f x → (c : Change) (row : List ℕ) → c .variable < length (f .variables) → step f x c (freshTables f row) ≡ freshTables f (set row (c .variable) (c .value))
 unfolding step
-step-fresh f x own c row h = rw (concerned-naming f x own (c .variable) h, renewed-fresh f row (c .variable) (c .value))
+step-fresh f x own c row h = rw (concerned-naming f x own (c .variable) h, renewed-fresh (λ j. j .verdict) f row (c .variable) (c .value), renewed-fresh (λ j. j .result) f row (c .variable) (c .value))
 
 -- ---- no verdict is above 2
 low : (t : Bool) → ltb verdictDisregarded (cond t verdictHolds verdictViolated) ≡ false
@@ -80,6 +83,6 @@ judged-low none goal = refl
 judged-low (some r) goal = low (eqb r goal)
 
 pub none-above : (xs : List Variable) (row : List ℕ) (n : ℕ) (ls : List Line) → firstFrom (ltb verdictDisregarded) n (verdictsOf xs row ls) ≡ none
-unfolding verdictsOf firstFrom judge
+unfolding columnOf firstFrom judge
 none-above xs row n [] = refl
 none-above xs row n (l ∷ ls) = rw (judged-low (resultOf xs row l) (target xs row (l .output) .value)) (none-above xs row (suc n) ls)

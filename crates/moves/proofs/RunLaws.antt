@@ -1,4 +1,4 @@
--- A run of changes: each finds a row and its fresh verdicts in the tables, answers as the model does, and leaves the model's row and its fresh verdicts. Assumes nothing.
+-- A run of changes: each finds the fresh tables of a row, answers as the model does, and leaves the fresh tables of the model's row. Assumes nothing.
 use Prim.Native.Nat.{ℕ, suc}
 use mathlib.Core.Path.{_≡_, refl, sym, ap, ap₂, _∙_}
 use mathlib.Core.List.{List, [], _∷_, _++_, map}
@@ -8,17 +8,17 @@ use Rattle.refusal.specs.Result.{Result, accepted, refused, _>>_}
 use Rattle.constraint.specs.File.{File}
 use Rattle.constraint.specs.Read.{readFile}
 use Rattle.constraint.specs.Sound.{Each}
-use Rattle.judge.specs.Judge.{freshVerdicts}
-use Rattle.judge.specs.InUse.{valuesFit, verdictsFit}
+use Rattle.judge.specs.Judge.{freshVerdicts, freshResults}
+use Rattle.judge.specs.InUse.{Tables, inUse, freshTables, roomOf, valuesFit, verdictsFit}
 use Rattle.judge.specs.Claims.{RowFits}
 use Rattle.judge.proofs.FitLaws.{unfit-none}
-use Rattle.judge.proofs.VerdictLaws.{verdicts-length}
+use Rattle.judge.proofs.VerdictLaws.{column-length}
 use Rattle.index.specs.AnyIndex.{indexFits}
 use Rattle.index.proofs.OwnIndexLaws.{index-fits, concerned-naming}
 use Rattle.moves.specs.declared.ChangeReply.{ChangeReply}
 use Rattle.moves.specs.declared.ChangeReply.the-variants.{Changed}
-use Rattle.moves.specs.Step.{Tables, inUse, freshTables, step, effect}
-use Rattle.moves.specs.Gate.{roomOf, entitled, admitted}
+use Rattle.moves.specs.Step.{step, effect}
+use Rattle.moves.specs.Gate.{entitled, admitted}
 use Rattle.moves.specs.Change.{Outcome, made, changed, changeFor, changeOutcome}
 use Rattle.moves.specs.Run.{Turn, fronts, putBack, turnOutcome, outcomes, tablesAfter, theChange, ModelOutcome, modelled, modelOutcome, modelReplies, modelRow}
 use Rattle.moves.specs.WholeRun.{OfRun}
@@ -27,23 +27,33 @@ use Rattle.moves.proofs.FreshLaws.{step-fresh, none-above}
 use Rattle.moves.proofs.GateLaws.{Entitled, entitled-passed}
 use Rattle.moves.proofs.ChangeLaws.{fits-set}
 
--- the state between two turns: a row in front of the values, its fresh verdicts in front of the verdicts; behind them what stood there at the start
+-- the state between two turns: a row in front of the values, its fresh verdicts and results in front of the others; behind them what stood there at the start
 pub record State (f : File) (row : List ℕ) (base t : Tables) : Type 0 where
   pub long : length row ≡ length (f .variables)
   pub fits : RowFits (f .variables) row
   pub values-are : t .values ≡ row ++ drop (length (f .variables)) (base .values)
   pub verdicts-are : t .verdicts ≡ freshVerdicts f row ++ drop (length (f .lines)) (base .verdicts)
+  pub results-are : t .results ≡ freshResults f row ++ drop (length (f .lines)) (base .results)
 
-pub fresh-many : (f : File) (row : List ℕ) → length (freshVerdicts f row) ≡ length (f .lines)
-fresh-many f row = verdicts-length (f .variables) row (f .lines)
+pub verdicts-many : (f : File) (row : List ℕ) → length (freshVerdicts f row) ≡ length (f .lines)
+verdicts-many f row = column-length (λ j. j .verdict) (f .variables) row (f .lines)
+
+pub results-many : (f : File) (row : List ℕ) → length (freshResults f row) ≡ length (f .lines)
+results-many f row = column-length (λ j. j .result) (f .variables) row (f .lines)
 
 -- what a turn is lent of one state it is lent of another
 of-state : (f : File) (row row′ : List ℕ) (base t t′ : Tables) → State f row base t → State f row′ base t′ → (u : Turn) → OfRun f t u → OfRun f t′ u
-of-state f row row′ base t t′ s s′ u o = record {
-  values = rw (columns-long row row′ (drop (length (f .variables)) (base .values)) (t .values) (t′ .values) (s .long ∙ sym (s′ .long)) (s .values-are) (s′ .values-are)) at (o .values);
-  verdicts = rw (columns-long (freshVerdicts f row) (freshVerdicts f row′) (drop (length (f .lines)) (base .verdicts)) (t .verdicts) (t′ .verdicts) (fresh-many f row ∙ sym (fresh-many f row′)) (s .verdicts-are) (s′ .verdicts-are)) at (o .verdicts);
-  index = o .index;
-}
+of-state f row row′ base t t′ s s′ u o =
+    let n = length (f .variables) in
+    let m = length (f .lines) in
+    record {
+      within = record {
+        values = rw (columns-long row row′ (drop n (base .values)) (t .values) (t′ .values) (s .long ∙ sym (s′ .long)) (s .values-are) (s′ .values-are)) at (o .within .values);
+        verdicts = rw (columns-long (freshVerdicts f row) (freshVerdicts f row′) (drop m (base .verdicts)) (t .verdicts) (t′ .verdicts) (verdicts-many f row ∙ sym (verdicts-many f row′)) (s .verdicts-are) (s′ .verdicts-are)) at (o .within .verdicts);
+        results = rw (columns-long (freshResults f row) (freshResults f row′) (drop m (base .results)) (t .results) (t′ .results) (results-many f row ∙ sym (results-many f row′)) (s .results-are) (s′ .results-are)) at (o .within .results);
+      };
+      index = o .index;
+    }
 
 -- ---- one turn in a state
 module _ (f : File) (row : List ℕ) (base t : Tables) (s : State f row base t) (u : Turn) (o : OfRun f t u) where
@@ -52,7 +62,7 @@ module _ (f : File) (row : List ℕ) (base t : Tables) (s : State f row base t) 
   lent = fronts (u .lent) t
 
   room-lent : roomOf lent ≡ u .lent
-  room-lent = rw (length-take-le (u .lent .values) (t .values) (o .values), length-take-le (u .lent .verdicts) (t .verdicts) (o .verdicts))
+  room-lent = rw (length-take-le (u .lent .values) (t .values) (o .within .values), length-take-le (u .lent .verdicts) (t .verdicts) (o .within .verdicts), length-take-le (u .lent .results) (t .results) (o .within .results))
 
   -- where they have room, the fresh tables stand in them
   used-lent : Entitled f (u .lent) (u .call) → inUse f lent ≡ freshTables f row
@@ -60,8 +70,9 @@ module _ (f : File) (row : List ℕ) (base t : Tables) (s : State f row base t) 
       let n = length (f .variables) in
       let m = length (f .lines) in
       rw (
-        column-lent row (drop n (base .values)) (t .values) n (s .long) (s .values-are) (u .lent .values) (e .values-room),
-        column-lent (freshVerdicts f row) (drop m (base .verdicts)) (t .verdicts) m (fresh-many f row) (s .verdicts-are) (u .lent .verdicts) (e .verdicts-room),
+        column-lent row (drop n (base .values)) (t .values) n (s .long) (s .values-are) (u .lent .values) (e .has-room .values),
+        column-lent (freshVerdicts f row) (drop m (base .verdicts)) (t .verdicts) m (verdicts-many f row) (s .verdicts-are) (u .lent .verdicts) (e .has-room .verdicts),
+        column-lent (freshResults f row) (drop m (base .results)) (t .results) m (results-many f row) (s .results-are) (u .lent .results) (e .has-room .results),
       )
 
   -- the tests are the model's: neither 24 nor 25 arises
@@ -104,10 +115,13 @@ module _ (f : File) (row : List ℕ) (base t : Tables) (s : State f row base t) 
           fits = fits-set (f .variables) row (c .variable) (c .value) (s .fits) (rw (s .long) (e .variable)) (e .value);
           values-are =
               ap (λ (z : Tables). (z .values ++ drop n (lent .values)) ++ drop (u .lent .values) (t .values)) new
-              ∙ column-put row (drop n (base .values)) (t .values) n (s .long) (s .values-are) (u .lent .values) (o .values) (e .values-room) after;
+              ∙ column-put row (drop n (base .values)) (t .values) n (s .long) (s .values-are) (u .lent .values) (o .within .values) (e .has-room .values) after;
           verdicts-are =
               ap (λ (z : Tables). (z .verdicts ++ drop m (lent .verdicts)) ++ drop (u .lent .verdicts) (t .verdicts)) new
-              ∙ column-put (freshVerdicts f row) (drop m (base .verdicts)) (t .verdicts) m (fresh-many f row) (s .verdicts-are) (u .lent .verdicts) (o .verdicts) (e .verdicts-room) (freshVerdicts f after);
+              ∙ column-put (freshVerdicts f row) (drop m (base .verdicts)) (t .verdicts) m (verdicts-many f row) (s .verdicts-are) (u .lent .verdicts) (o .within .verdicts) (e .has-room .verdicts) (freshVerdicts f after);
+          results-are =
+              ap (λ (z : Tables). (z .results ++ drop m (lent .results)) ++ drop (u .lent .results) (t .results)) new
+              ∙ column-put (freshResults f row) (drop m (base .results)) (t .results) m (results-many f row) (s .results-are) (u .lent .results) (o .within .results) (e .has-room .results) (freshResults f after);
         };
       }
 
@@ -123,7 +137,8 @@ module _ (f : File) (row : List ℕ) (base t : Tables) (s : State f row base t) 
           long = s .long;
           fits = s .fits;
           values-are = column-back row (drop n (base .values)) (t .values) n (s .long) (s .values-are) (u .lent .values);
-          verdicts-are = column-back (freshVerdicts f row) (drop m (base .verdicts)) (t .verdicts) m (fresh-many f row) (s .verdicts-are) (u .lent .verdicts);
+          verdicts-are = column-back (freshVerdicts f row) (drop m (base .verdicts)) (t .verdicts) m (verdicts-many f row) (s .verdicts-are) (u .lent .verdicts);
+          results-are = column-back (freshResults f row) (drop m (base .results)) (t .results) m (results-many f row) (s .results-are) (u .lent .results);
         };
       }
 

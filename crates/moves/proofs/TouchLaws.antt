@@ -1,9 +1,10 @@
 -- What a change leaves as it was. Assumes nothing.
-use Prim.Native.Nat.{ℕ, suc, _<_}
+use Prim.Native.Nat.{ℕ, suc, _≤_, _<_}
 use mathlib.Core.Path.{_≡_, refl, ap, _∙_}
 use mathlib.Core.Bool.{Bool}
-use mathlib.Core.List.{List, [], _∷_}
-use lib.ListN.{length, getD, set, length-set, take-append-drop}
+use mathlib.Core.List.{List, [], _∷_, _++_}
+use mathlib.Core.Option.{Option}
+use lib.ListN.{length, getD, take, drop, set, length-set, take-append-drop}
 use lib.Seq.{length-front, length-take-le, getD-set-other}
 use Rattle.refusal.specs.declared.Refusal.{Refusal}
 use Rattle.refusal.specs.Result.{Result, accepted, refused}
@@ -11,23 +12,40 @@ use Rattle.refusal.proofs.ResultLaws.{never}
 use Rattle.constraint.specs.File.{File}
 use Rattle.constraint.specs.Read.{readFile}
 use Rattle.constraint.specs.Sound.{Each}
-use Rattle.judge.specs.Judge.{freshVerdicts}
-use Rattle.judge.specs.InUse.{rowInUse, verdictsInUse}
+use Rattle.judge.specs.declared.Judged.{Judged}
+use Rattle.judge.specs.Judge.{columnOf}
+use Rattle.judge.specs.InUse.{Tables, rowInUse, columnInUse, Room}
 use Rattle.index.specs.Select.{naming}
+use Rattle.index.specs.Index.{Index}
 use Rattle.index.specs.AnyIndex.{concerned}
 use Rattle.index.proofs.OwnIndexLaws.{concerned-naming}
 use Rattle.moves.specs.declared.ChangeReply.the-variants.{Refused}
-use Rattle.moves.specs.Step.{Tables, renewed, step}
-use Rattle.moves.specs.Gate.{Call, Room, admitted}
+use Rattle.moves.specs.Step.{renewed, step}
+use Rattle.moves.specs.Gate.{Call, admitted}
 use Rattle.moves.specs.Change.{Outcome, made, changed, changeBy, changeOutcome}
 use Rattle.moves.specs.Run.{Turn, fronts, putBack, turnOutcome, EachTurn, theChange}
-use Rattle.moves.specs.WholeRun.{OfRun, TouchesOnly, TouchesNoOther, RefusedTouchesNothing}
+use Rattle.moves.specs.WholeRun.{OfRun, TouchesOnlyLines, TouchesOnly, TouchesNoOther, RefusedTouchesNothing}
 use Rattle.moves.proofs.ColumnLaws.{place-kept}
 use Rattle.moves.proofs.RenewLaws.{renewed-other, lines-long, fresh-long, new-long}
 use Rattle.moves.proofs.GateLaws.{Admitted, admitted-passed}
 use Rattle.moves.proofs.ChangeLaws.{values-stored}
 
 -- ---- a change on a file that is read
+-- a column of m entries in use, the lines concerned made anew
+touches-column : (part : Judged → ℕ) (f : File) (x : Option Index) (i : ℕ) (row old : List ℕ) → length (f .lines) ≤ length old
+    → TouchesOnlyLines (concerned f x i) old (renewed (concerned f x i) (columnOf part (f .variables) row (f .lines)) (columnInUse f old) ++ drop (length (f .lines)) old)
+touches-column part f x i row old room =
+    let m = length (f .lines) in
+    let lines = concerned f x i in
+    let held = columnInUse f old in
+    let fresh = columnOf part (f .variables) row (f .lines) in
+    let held-long = length-take-le m old room in
+    let many = new-long part f x i row held held-long in
+    record {
+      others = λ j e. place-kept (renewed lines fresh held) old m j many (renewed-other lines fresh held j (lines-long part f x i row held held-long) (fresh-long part f x i row held held-long) e);
+      long = length-front old (renewed lines fresh held) m many;
+    }
+
 module _ (f : File) (t : Tables) (c : Call) where
   abbrev variable : ℕ
   variable = c .change .variable
@@ -35,25 +53,21 @@ module _ (f : File) (t : Tables) (c : Call) where
   pub made-touches : Admitted f t c → TouchesOnly variable (concerned f (c .index) variable) t (made f t c)
   unfolding made step
   made-touches p =
-      let m = length (f .lines) in
-      let sel = concerned f (c .index) variable in
       let row = set (rowInUse f (t .values)) variable (c .change .value) in
-      let held = verdictsInUse f (t .verdicts) in
-      let held-long = length-take-le m (t .verdicts) (p .is-entitled .verdicts-room) in
-      let many = new-long f (c .index) variable row held held-long in
-      let stored = values-stored f (t .values) (t .verdicts) variable (c .change .value) (c .index) p in
+      let room = p .is-entitled .has-room in
+      let stored = values-stored f t variable (c .change .value) (c .index) p in
       record {
         other-values = λ j h. ap (λ (l : List ℕ). getD l j 0) stored ∙ getD-set-other (t .values) variable j (c .change .value) 0 h;
         values-long = ap length stored ∙ length-set (t .values) variable (c .change .value);
-        other-verdicts = λ j e. place-kept (renewed sel (freshVerdicts f row) held) (t .verdicts) m j many (renewed-other sel (freshVerdicts f row) held j (lines-long f (c .index) variable row held held-long) (fresh-long f (c .index) variable row held held-long) e);
-        verdicts-long = length-front (t .verdicts) (renewed sel (freshVerdicts f row) held) m many;
+        verdicts = touches-column (λ j. j .verdict) f (c .index) variable row (t .verdicts) (room .verdicts);
+        results = touches-column (λ j. j .result) f (c .index) variable row (t .results) (room .results);
         refused-nothing = λ r e. never (cc e);
       }
 
   -- accepted or refused
   changed-touches : (r : Result (Unit {0})) → admitted f t c ≡ r → (lines : List Bool) → (variable < length (f .variables) → concerned f (c .index) variable ≡ lines) → TouchesOnly variable lines t (changed f t c r)
   changed-touches (accepted tt) e lines same = let p = admitted-passed f t c e in rw (← same (p .is-entitled .variable)) (made-touches p)
-  changed-touches (refused r) e lines same = record { other-values = λ j h. refl; values-long = refl; other-verdicts = λ j h. refl; verdicts-long = refl; refused-nothing = λ x q. refl }
+  changed-touches (refused r) e lines same = record { other-values = λ j h. refl; values-long = refl; verdicts = record { others = λ j h. refl; long = refl }; results = record { others = λ j h. refl; long = refl }; refused-nothing = λ x q. refl }
 
 -- ---- a change of any constraint file
 refused-by : (t : Tables) (c : Call) (x : Refusal) (q : Result File) → changeBy q t c .reply ≡ Refused x → changeBy q t c .tables ≡ t
@@ -67,16 +81,18 @@ pub refused-touches-nothing : RefusedTouchesNothing
 refused-touches-nothing constraint t c x e = refused-by t c x (readFile constraint) e
 
 -- ---- a change of the first entries, in whole tables: it leaves the rest as well
+back-column : (lines : List Bool) (k : ℕ) (old front : List ℕ) → TouchesOnlyLines lines (take k old) front → TouchesOnlyLines lines old (front ++ drop k old)
+back-column lines k old front t = record { others = λ j h. place-kept front old k j (t .long) (t .others j h); long = length-front old front k (t .long) }
+
 back-touches : (i : ℕ) (lines : List Bool) (n : Room) (t : Tables) (o : Outcome) → TouchesOnly i lines (fronts n t) o → TouchesOnly i lines t (record { reply = o .reply; tables = putBack n (o .tables) t })
 back-touches i lines n t o k =
     let p = n .values in
-    let q = n .verdicts in
     record {
       other-values = λ j h. place-kept (o .tables .values) (t .values) p j (k .values-long) (k .other-values j h);
       values-long = length-front (t .values) (o .tables .values) p (k .values-long);
-      other-verdicts = λ j h. place-kept (o .tables .verdicts) (t .verdicts) q j (k .verdicts-long) (k .other-verdicts j h);
-      verdicts-long = length-front (t .verdicts) (o .tables .verdicts) q (k .verdicts-long);
-      refused-nothing = λ r e. rw (k .refused-nothing r e, take-append-drop p (t .values), take-append-drop q (t .verdicts));
+      verdicts = back-column lines (n .verdicts) (t .verdicts) (o .tables .verdicts) (k .verdicts);
+      results = back-column lines (n .results) (t .results) (o .tables .results) (k .results);
+      refused-nothing = λ r e. rw (k .refused-nothing r e, take-append-drop p (t .values), take-append-drop (n .verdicts) (t .verdicts), take-append-drop (n .results) (t .results));
     }
 
 -- ---- each turn of a run

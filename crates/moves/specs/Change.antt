@@ -4,9 +4,10 @@ use mathlib.Core.List.{List}
 use Rattle.refusal.specs.Result.{Result, accepted, refused}
 use Rattle.constraint.specs.File.{File}
 use Rattle.constraint.specs.Read.{readFile}
+use Rattle.judge.specs.InUse.{Tables, inUse, putInUse}
 use Rattle.moves.specs.declared.ChangeReply.{ChangeReply}
 use Rattle.moves.specs.declared.ChangeReply.the-variants.{Changed, Refused}
-use Rattle.moves.specs.Step.{Tables, inUse, putInUse, step, effect}
+use Rattle.moves.specs.Step.{step, effect}
 use Rattle.moves.specs.Gate.{Call, admitted}
 
 -- the reply and the tables at exit

@@ -7,10 +7,10 @@ use Rattle.refusal.specs.declared.Subject.the-variants.{Call as CallsNumbers}
 use Rattle.refusal.specs.Numbers.{valueDoesNotFit, noSuchVariable}
 use Rattle.refusal.specs.Result.{Result, refusal, ensure, _>>_}
 use Rattle.constraint.specs.File.{File, widthAt}
-use Rattle.judge.specs.InUse.{valuesRoom, verdictsRoom, valuesFit, verdictsFit}
+use Rattle.judge.specs.InUse.{Tables, Room, roomOf, tablesRoom, valuesFit, verdictsFit}
 use Rattle.index.specs.Index.{Index}
 use Rattle.index.specs.AnyIndex.{indexFits}
-use Rattle.moves.specs.Step.{Tables, Change}
+use Rattle.moves.specs.Step.{Change}
 
 -- a call, but for the tables: what it is told, and the index that it is lent, if any
 pub record Call : Type 0 where
@@ -21,14 +21,6 @@ pub record Call : Type 0 where
 abbrev pub changing : ℕ → ℕ → Option Index → Call
 changing i v x = record { change = record { variable = i; value = v }; index = x }
 
--- how many entries of each table are lent
-pub record Room : Type 0 where
-  pub values : ℕ
-  pub verdicts : ℕ
-
-abbrev pub roomOf : Tables → Room
-roomOf t = record { values = length (t .values); verdicts = length (t .verdicts) }
-
 -- 23, then 18
 unfoldable pub changeFits : File → Change → Result (Unit {0})
 changeFits f c = do
@@ -38,8 +30,7 @@ changeFits f c = do
 -- the tests that come before 24: they "go by what that change is lent and told", and not by what stands in the tables
 unfoldable pub entitled : File → Room → Call → Result (Unit {0})
 entitled f lent c = do
-  valuesRoom f (lent .values)
-  verdictsRoom f (lent .verdicts)
+  tablesRoom f lent
   changeFits f (c .change)
 
 -- all tests: "21, 23, 18, 24", then 25

@@ -5,10 +5,11 @@ use mathlib.Core.Option.{none}
 use lib.ListN.{take, drop, set}
 use Rattle.refusal.specs.Result.{Result, accepted, refused}
 use Rattle.constraint.specs.File.{File}
+use Rattle.judge.specs.InUse.{Tables, tablesOf, freshTables, Room}
 use Rattle.moves.specs.declared.ChangeReply.{ChangeReply}
 use Rattle.moves.specs.declared.ChangeReply.the-variants.{Changed, Refused}
-use Rattle.moves.specs.Step.{Tables, tablesOf, freshTables, effect}
-use Rattle.moves.specs.Gate.{Call, Room, entitled}
+use Rattle.moves.specs.Step.{effect}
+use Rattle.moves.specs.Gate.{Call, entitled}
 use Rattle.moves.specs.Change.{Outcome, changeOutcome}
 
 -- THE RUN
@@ -20,10 +21,11 @@ pub record Turn : Type 0 where
 
 -- the first entries of tables; and such entries, in front of what stands behind them
 abbrev pub fronts : Room → Tables → Tables
-fronts n t = tablesOf (take (n .values) (t .values)) (take (n .verdicts) (t .verdicts))
+fronts n t = tablesOf (take (n .values) (t .values)) (take (n .verdicts) (t .verdicts)) (take (n .results) (t .results))
 
 abbrev pub putBack : Room → Tables → Tables → Tables
-putBack n front t = tablesOf (front .values ++ drop (n .values) (t .values)) (front .verdicts ++ drop (n .verdicts) (t .verdicts))
+putBack n front t =
+    tablesOf (front .values ++ drop (n .values) (t .values)) (front .verdicts ++ drop (n .verdicts) (t .verdicts)) (front .results ++ drop (n .results) (t .results))
 
 -- what changes do: from the constraint file, the tables lent and the call to the reply and the tables at exit
 abbrev pub ChangeCall : Type 0

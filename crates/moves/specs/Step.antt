@@ -1,40 +1,20 @@
 -- One value put in, and the lines concerned renewed: the core of a change.
 use Prim.Native.Nat.{ℕ}
 use mathlib.Core.Bool.{Bool, cond, not}
-use mathlib.Core.List.{List, [], _∷_, _++_, zipWith}
+use mathlib.Core.List.{List, [], _∷_, zipWith}
 use mathlib.Core.Option.{Option}
 use lib.Dec.{eqb}
-use lib.ListN.{length, getD, drop, set}
+use lib.ListN.{getD, set}
 use Rattle.edition.specs.Word.{wordBits}
 use Rattle.refusal.specs.Lists.{howMany}
 use Rattle.arithmetic.specs.Bits.{differingBits}
 use Rattle.constraint.specs.File.{File}
-use Rattle.judge.specs.Judge.{freshVerdicts, overallOf}
-use Rattle.judge.specs.InUse.{rowInUse, verdictsInUse}
+use Rattle.judge.specs.Judge.{freshVerdicts, freshResults, overallOf}
+use Rattle.judge.specs.InUse.{Tables, tablesOf}
 use Rattle.index.specs.Select.{selected}
 use Rattle.index.specs.Index.{Index}
 use Rattle.index.specs.AnyIndex.{concerned}
 use Rattle.moves.specs.declared.Effect.{Effect}
-
--- the lent tables
-pub record Tables : Type 0 where
-  pub values : List ℕ
-  pub verdicts : List ℕ
-
-abbrev pub tablesOf : List ℕ → List ℕ → Tables
-tablesOf values verdicts = record { values = values; verdicts = verdicts }
-
--- their entries in use
-abbrev pub inUse : File → Tables → Tables
-inUse f t = tablesOf (rowInUse f (t .values)) (verdictsInUse f (t .verdicts))
-
--- entries in use, in front of what stands behind those of other tables
-abbrev pub putInUse : File → Tables → Tables → Tables
-putInUse f used t = tablesOf (used .values ++ drop (length (f .variables)) (t .values)) (used .verdicts ++ drop (length (f .lines)) (t .verdicts))
-
--- what a fresh check makes of a row
-abbrev pub freshTables : File → List ℕ → Tables
-freshTables f row = tablesOf row (freshVerdicts f row)
 
 -- THE STEP
 
@@ -50,11 +30,12 @@ renewed (b ∷ bs) [] held = []
 renewed (b ∷ bs) (x ∷ fresh) [] = []
 renewed (b ∷ bs) (x ∷ fresh) (h ∷ held) = cond b x h ∷ renewed bs fresh held
 
--- "it stores the value, renews the verdict of each line that names the variable as output or operand, and changes no other entry"; through an index it renews "just the lines listed"
+-- "it stores the value, renews the verdict of each line that names the variable as output or operand, and changes no other entry"; results it renews "with the verdicts"; through an index it renews "just the lines listed"
 unfoldable pub step : File → Option Index → Change → Tables → Tables
 step f x c t =
     let row = set (t .values) (c .variable) (c .value) in
-    tablesOf row (renewed (concerned f x (c .variable)) (freshVerdicts f row) (t .verdicts))
+    let lines = concerned f x (c .variable) in
+    tablesOf row (renewed lines (freshVerdicts f row) (t .verdicts)) (renewed lines (freshResults f row) (t .results))
 
 -- THE ANSWER
 

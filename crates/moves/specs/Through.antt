@@ -9,14 +9,13 @@ use Rattle.refusal.specs.Lists.{isOneOf}
 use Rattle.refusal.specs.Result.{accepted}
 use Rattle.constraint.specs.File.{File}
 use Rattle.constraint.specs.Read.{readFile}
-use Rattle.judge.specs.Judge.{freshVerdicts}
-use Rattle.judge.specs.InUse.{rowInUse}
+use Rattle.judge.specs.Judge.{freshVerdicts, freshResults}
+use Rattle.judge.specs.InUse.{Tables, rowInUse}
 use Rattle.index.specs.Index.{Index}
 use Rattle.index.specs.AnyIndex.{listIn}
 use Rattle.index.specs.Claims.{IsOwn}
 use Rattle.moves.specs.declared.Effect.{Effect}
 use Rattle.moves.specs.declared.ChangeReply.the-variants.{Changed}
-use Rattle.moves.specs.Step.{Tables}
 use Rattle.moves.specs.Gate.{changing}
 use Rattle.moves.specs.Change.{changeOutcome}
 
@@ -28,12 +27,17 @@ OwnIndexSame =
     → IsOwn f x
     → changeOutcome constraint t (changing i v (some x)) ≡ changeOutcome constraint t (changing i v none)
 
+-- a column of a table of lines: the entries of the lines listed are fresh, all others as they were
+pub record JustLines (f : File) (list fresh old new : List ℕ) : Type 0 where
+  pub listed : (j : ℕ) → j < length (f .lines) → isOneOf (1 + j) list ≡ true → getD new j 0 ≡ getD fresh j 0
+  pub others : (j : ℕ) → isOneOf (1 + j) list ≡ false → getD new j 0 ≡ getD old j 0
+
 -- "it renews, and counts as named, just the lines listed": an accepted change of the variable i to v, from the tables t to t′
 pub record JustListed (f : File) (x : Index) (i v : ℕ) (t : Tables) (e : Effect) (t′ : Tables) : Type 0 where
   pub named : e .named ≡ length (listIn x i)
   pub values-are : t′ .values ≡ set (t .values) i v
-  pub listed-verdicts : (j : ℕ) → j < length (f .lines) → isOneOf (1 + j) (listIn x i) ≡ true → getD (t′ .verdicts) j 0 ≡ getD (freshVerdicts f (rowInUse f (t′ .values))) j 0
-  pub other-verdicts : (j : ℕ) → isOneOf (1 + j) (listIn x i) ≡ false → getD (t′ .verdicts) j 0 ≡ getD (t .verdicts) j 0
+  pub verdicts : JustLines f (listIn x i) (freshVerdicts f (rowInUse f (t′ .values))) (t .verdicts) (t′ .verdicts)
+  pub results : JustLines f (listIn x i) (freshResults f (rowInUse f (t′ .values))) (t .results) (t′ .results)
 
 -- "Through any other fitting index": one that does not fit is refused 25
 abbrev pub RenewsJustListed : Type 0

@@ -1,5 +1,4 @@
 // The tests of a change.
-use super::Gate;
 use arithmetic::Word;
 use arithmetic::rules::fits;
 use edition::Edition;
@@ -7,39 +6,30 @@ use index::IndexFault;
 use index::fitting::index_fault;
 use judge::Judged;
 use judge::in_use::first_unfit;
+use judge::in_use::tables_room;
+use refusal::Gate;
 use refusal::Refusal;
 use refusal::Subject;
+use refusal::bar;
 use store::Found;
 use store::variables::width_of;
 ghost use mathlib.Core.Path.{_≡_};
 ghost use mathlib.Core.List.{List};
-ghost use mathlib.Core.Option.{none};
 ghost use Prim.Native.Nat.{ℕ, _≤_};
 ghost use lib.Dec.{ltb};
 ghost use lib.ListN.{length};
 ghost use Rattle.edition.specs.Edition.{maxVariables, maxLines};
 ghost use Rattle.refusal.specs.Lists.{firstFrom};
-ghost use Rattle.refusal.specs.Result.{refusal as refusalOf};
+ghost use Rattle.refusal.specs.Result.{gateResult};
 ghost use Rattle.constraint.specs.declared.Line.{Line};
 ghost use Rattle.store.specs.Tables.{place, variablesIn};
 ghost use Rattle.judge.specs.Judge.{verdictDisregarded};
+ghost use Rattle.judge.specs.InUse.{tablesOf};
 ghost use Rattle.index.specs.Index.{indexOf};
 ghost use Rattle.index.specs.AnyIndex.{indexFitsFor};
 ghost use Rattle.index.specs.Internal.{fileOf};
-ghost use Rattle.moves.specs.declared.Gate.the-variants.{Bar};
-ghost use Rattle.moves.specs.Step.{tablesOf};
 ghost use Rattle.moves.specs.Gate.{changing, admitted};
-ghost use Rattle.moves.specs.Internal.{indexIf, gateResult};
-
-fn bar(number: u8, subject: Subject, position: usize) -> Gate
-    ensures { λ r. ⌜ r ≡ Bar (refusalOf subject number position) ⌝ }
-{
-    Gate::Bar(Refusal {
-        number,
-        subject,
-        position,
-    })
-}
+ghost use Rattle.moves.specs.Internal.{indexIf, numbersFit};
 
 // The first byte that is no verdict.
 fn first_above(verdicts: &[u8]) -> Found
@@ -55,8 +45,8 @@ fn first_above(verdicts: &[u8]) -> Found
     Found::Nowhere
 }
 
-// The tests of a change of variable i, of n, to the value v, but for those of an index; there are m lines.
-fn gate_tables(
+// The tests of a change's own numbers, variable i of n and value v, and of those in tables that have room; there are m lines.
+fn gate_numbers(
     variables: &[u64; Edition::VARIABLES],
     n: usize,
     m: usize,
@@ -65,15 +55,9 @@ fn gate_tables(
     i: usize,
     v: u64,
 ) -> Gate
-    requires { ⌜ (n ≤ maxVariables) × (m ≤ maxLines) ⌝ }
-    ensures { λ r. ⌜ ((file : List ℕ) (ls : List Line) → length ls ≡ m → gateResult r ≡ admitted (fileOf (variablesIn file (now (variables .entry)) n) ls) (tablesOf (now (values .entry)) (now (verdicts .entry))) (changing i v none)) ⌝ }
+    requires { ⌜ (n ≤ maxVariables) × (m ≤ maxLines) × (n ≤ length (now values)) × (m ≤ length (now verdicts)) ⌝ }
+    ensures { λ r. ⌜ ((file : List ℕ) (ls : List Line) → length ls ≡ m → gateResult r ≡ numbersFit (fileOf (variablesIn file (now (variables .entry)) n) ls) (now (values .entry)) (now (verdicts .entry)) (record { variable = i; value = v })) ⌝ }
 {
-    if values.len() < n {
-        return bar(Refusal::TOO_SHORT, Subject::Values, 0);
-    }
-    if verdicts.len() < m {
-        return bar(Refusal::TOO_SHORT, Subject::Verdicts, 0);
-    }
     if n <= i {
         return bar(Refusal::NO_SUCH_VARIABLE, Subject::Call, 0);
     }
@@ -111,6 +95,7 @@ pub(crate) fn gate(
     m: usize,
     values: &[u64],
     verdicts: &[u8],
+    results: &[u64],
     through: bool,
     starts: &[u32],
     lists: &[u32],
@@ -118,15 +103,18 @@ pub(crate) fn gate(
     v: u64,
 ) -> Gate
     requires { ⌜ (n ≤ maxVariables) × (m ≤ maxLines) ⌝ }
-    ensures { λ r. ⌜ ((file : List ℕ) (ls : List Line) → length ls ≡ m → gateResult r ≡ admitted (fileOf (variablesIn file (now (variables .entry)) n) ls) (tablesOf (now (values .entry)) (now (verdicts .entry))) (changing i v (indexIf through (now (starts .entry)) (now (lists .entry))))) ⌝ }
+    ensures { λ r. ⌜ ((file : List ℕ) (ls : List Line) → length ls ≡ m → gateResult r ≡ admitted (fileOf (variablesIn file (now (variables .entry)) n) ls) (tablesOf (now (values .entry)) (now (verdicts .entry)) (now (results .entry))) (changing i v (indexIf through (now (starts .entry)) (now (lists .entry))))) ⌝ }
 {
-    match gate_tables(variables, n, m, values, verdicts, i, v) {
+    match tables_room(n, m, values.len(), verdicts.len(), results.len()) {
         Gate::Bar(r) => Gate::Bar(r),
-        Gate::Pass => {
-            if through {
-                return gate_index(starts, lists, n, m);
+        Gate::Pass => match gate_numbers(variables, n, m, values, verdicts, i, v) {
+            Gate::Bar(r) => Gate::Bar(r),
+            Gate::Pass => {
+                if through {
+                    return gate_index(starts, lists, n, m);
+                }
+                Gate::Pass
             }
-            Gate::Pass
-        }
+        },
     }
 }

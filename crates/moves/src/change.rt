@@ -1,7 +1,6 @@
 // The single-value change, with and without an index.
 use super::ChangeReply;
 use super::Effect;
-use super::Gate;
 use super::Renewal;
 use super::admission::gate;
 use super::renewing::renew_concerned;
@@ -10,6 +9,7 @@ use edition::Edition;
 use judge::Overall;
 use judge::verdicts::overall;
 use reader::reading::read;
+use refusal::Gate;
 use store::Step;
 use store::lines::TABLE_BODIES;
 use store::lines::TABLE_HEADS;
@@ -22,12 +22,12 @@ ghost use Rattle.edition.specs.Edition.{maxVariables, maxLines};
 ghost use Rattle.edition.specs.Word.{wordBits};
 ghost use Rattle.arithmetic.specs.Bits.{differingBits};
 ghost use Rattle.store.specs.Tables.{tableHeads, tableBodies, linesIn, variablesIn, AllHeadsFit};
+ghost use Rattle.judge.specs.InUse.{tablesOf};
 ghost use Rattle.judge.specs.Claims.{RowFits};
 ghost use Rattle.judge.specs.Fitting.{Judgeable};
 ghost use Rattle.index.specs.Index.{indexOf};
 ghost use Rattle.index.specs.Internal.{fileOf};
 ghost use Rattle.moves.specs.declared.ChangeReply.the-variants.{Changed};
-ghost use Rattle.moves.specs.Step.{tablesOf};
 ghost use Rattle.moves.specs.Gate.{changing};
 ghost use Rattle.moves.specs.Change.{changeFor, changeOutcome};
 ghost use Rattle.moves.specs.Internal.{indexIf};
@@ -53,6 +53,7 @@ fn change_held<'a>(
     m: usize,
     values: &mut [u64],
     verdicts: &mut [u8],
+    results: &mut [u64],
     through: bool,
     starts: &[u32],
     lists: &[u32],
@@ -60,7 +61,7 @@ fn change_held<'a>(
     v: u64,
 ) -> ChangeReply
     requires { ⌜ (n ≤ maxVariables) × (m ≤ maxLines) × (length (now heads) ≡ tableHeads) × (length (now bodies) ≡ tableBodies) × ((row : List ℕ) → ((file : List ℕ) → RowFits (variablesIn file (now variables) n) row) → (k : ℕ) → k < m → Judgeable row (now heads) (now bodies) k) ⌝ }
-    ensures { λ r. ⌜ ((file : List ℕ) → AllHeadsFit (variablesIn file (now (variables .entry)) n) (now (heads .entry)) (now (bodies .entry)) m → record { reply = r; tables = tablesOf (now (values .exit)) (now (verdicts .exit)) } ≡ changeFor (fileOf (variablesIn file (now (variables .entry)) n) (linesIn (now (heads .entry)) (now (bodies .entry)) m)) (tablesOf (now (values .entry)) (now (verdicts .entry))) (changing i v (indexIf through (now (starts .entry)) (now (lists .entry))))) ⌝ }
+    ensures { λ r. ⌜ ((file : List ℕ) → AllHeadsFit (variablesIn file (now (variables .entry)) n) (now (heads .entry)) (now (bodies .entry)) m → record { reply = r; tables = tablesOf (now (values .exit)) (now (verdicts .exit)) (now (results .exit)) } ≡ changeFor (fileOf (variablesIn file (now (variables .entry)) n) (linesIn (now (heads .entry)) (now (bodies .entry)) m)) (tablesOf (now (values .entry)) (now (verdicts .entry)) (now (results .entry))) (changing i v (indexIf through (now (starts .entry)) (now (lists .entry))))) ⌝ }
 {
     match gate(
         variables,
@@ -68,6 +69,7 @@ fn change_held<'a>(
         m,
         values,
         verdicts,
+        results,
         through,
         starts,
         lists,
@@ -85,6 +87,7 @@ fn change_held<'a>(
                 m,
                 row,
                 verdicts,
+                results,
                 through,
                 starts,
                 lists,
@@ -100,13 +103,14 @@ pub(crate) fn change_read(
     constraint: &[u8],
     values: &mut [u64],
     verdicts: &mut [u8],
+    results: &mut [u64],
     through: bool,
     starts: &[u32],
     lists: &[u32],
     i: usize,
     v: u64,
 ) -> ChangeReply
-    ensures { λ r. ⌜ record { reply = r; tables = tablesOf (now (values .exit)) (now (verdicts .exit)) } ≡ changeOutcome (now (constraint .entry)) (tablesOf (now (values .entry)) (now (verdicts .entry))) (changing i v (indexIf through (now (starts .entry)) (now (lists .entry)))) ⌝ }
+    ensures { λ r. ⌜ record { reply = r; tables = tablesOf (now (values .exit)) (now (verdicts .exit)) (now (results .exit)) } ≡ changeOutcome (now (constraint .entry)) (tablesOf (now (values .entry)) (now (verdicts .entry)) (now (results .entry))) (changing i v (indexIf through (now (starts .entry)) (now (lists .entry)))) ⌝ }
 {
     let mut variables = [0u64; Edition::VARIABLES];
     let mut heads = [0u8; TABLE_HEADS];
@@ -121,6 +125,7 @@ pub(crate) fn change_read(
             p.lines,
             values,
             verdicts,
+            results,
             through,
             starts,
             lists,
@@ -135,13 +140,24 @@ pub fn change(
     constraint: &[u8],
     values: &mut [u64],
     verdicts: &mut [u8],
+    results: &mut [u64],
     i: usize,
     v: u64,
 ) -> ChangeReply
-    ensures { λ r. ⌜ record { reply = r; tables = tablesOf (now (values .exit)) (now (verdicts .exit)) } ≡ changeOutcome (now (constraint .entry)) (tablesOf (now (values .entry)) (now (verdicts .entry))) (changing i v none) ⌝ }
+    ensures { λ r. ⌜ record { reply = r; tables = tablesOf (now (values .exit)) (now (verdicts .exit)) (now (results .exit)) } ≡ changeOutcome (now (constraint .entry)) (tablesOf (now (values .entry)) (now (verdicts .entry)) (now (results .entry))) (changing i v none) ⌝ }
 {
     let unused = [0u32; 0];
-    change_read(constraint, values, verdicts, false, &unused, &unused, i, v)
+    change_read(
+        constraint,
+        values,
+        verdicts,
+        results,
+        false,
+        &unused,
+        &unused,
+        i,
+        v,
+    )
 }
 
 // The same through an index, any two tables.
@@ -149,12 +165,23 @@ pub fn change_through(
     constraint: &[u8],
     values: &mut [u64],
     verdicts: &mut [u8],
+    results: &mut [u64],
     starts: &[u32],
     lists: &[u32],
     i: usize,
     v: u64,
 ) -> ChangeReply
-    ensures { λ r. ⌜ record { reply = r; tables = tablesOf (now (values .exit)) (now (verdicts .exit)) } ≡ changeOutcome (now (constraint .entry)) (tablesOf (now (values .entry)) (now (verdicts .entry))) (changing i v (some (indexOf (now (starts .entry)) (now (lists .entry))))) ⌝ }
+    ensures { λ r. ⌜ record { reply = r; tables = tablesOf (now (values .exit)) (now (verdicts .exit)) (now (results .exit)) } ≡ changeOutcome (now (constraint .entry)) (tablesOf (now (values .entry)) (now (verdicts .entry)) (now (results .entry))) (changing i v (some (indexOf (now (starts .entry)) (now (lists .entry))))) ⌝ }
 {
-    change_read(constraint, values, verdicts, true, starts, lists, i, v)
+    change_read(
+        constraint,
+        values,
+        verdicts,
+        results,
+        true,
+        starts,
+        lists,
+        i,
+        v,
+    )
 }

@@ -21,12 +21,6 @@ pub enum ChangeReply {
     Refused(Refusal),
 }
 
-// The tests of a change.
-pub enum Gate {
-    Pass,
-    Bar(Refusal),
-}
-
 // How many lines were renewed, and how many verdicts became different.
 pub struct Renewal {
     pub named: usize,

@@ -7,7 +7,7 @@ use lib.ListN.{length, take, length-append}
 use Rattle.refusal.specs.declared.Label.{Label}
 use Rattle.refusal.specs.declared.Refusal.{Refusal}
 use Rattle.refusal.specs.declared.Subject.{Subject}
-use Rattle.refusal.specs.declared.Subject.the-variants.{Constraint, Answer, Values, Verdicts, Output, Call, Starts, Lists}
+use Rattle.refusal.specs.declared.Subject.the-variants.{Constraint, Answer, Values, Verdicts, Output, Call, Starts, Lists, Results}
 use Rattle.refusal.specs.SubjectWords.{ascii, subjectWord, label}
 use Rattle.text.specs.Spelling.{maxDigits}
 use Rattle.printing.specs.Digits.{digits, counted}
@@ -31,6 +31,7 @@ labelled Output = record { short = omega arith; within = omega arith; front = re
 labelled Call = record { short = omega arith; within = omega arith; front = refl }
 labelled Starts = record { short = omega arith; within = omega arith; front = refl }
 labelled Lists = record { short = omega arith; within = omega arith; front = refl }
+labelled Results = record { short = omega arith; within = omega arith; front = refl }
 
 module _ (r : Refusal) where
   pub refusal-length : length (refusalText r) ≡ 10 + length (digits (r .number)) + length (subjectWord (r .subject)) + length (digits (r .position))

@@ -32,6 +32,11 @@ module _ {B : Type 0} {Q : B → Type 0} where
   yields-bind {m = accepted a} h n = n a (h .holds a refl)
   yields-bind {m = refused r} h n = yields-refused
 
+  -- a step without a value, then the next
+  pub yields-then : (m : Result (Unit {0})) {next : Result B} → (m ≡ accepted tt → Yields Q next) → Yields Q (m >> next)
+  yields-then (accepted tt) n = n refl
+  yields-then (refused r) n = yields-refused
+
   -- a test, then the next
   pub yields-ensure : (t : Bool) (r : Refusal) {next : Result B} → (t ≡ true → Yields Q next) → Yields Q (ensure t r >> next)
   yields-ensure true r n = n refl

@@ -5,7 +5,7 @@ use Prim.Native.String.{String, [] as ε, _∷_ as _∷ˢ_}
 use mathlib.Core.List.{List, [], _∷_, _++_}
 use lib.ListN.{length, replicate}
 use Rattle.refusal.specs.declared.Subject.{Subject}
-use Rattle.refusal.specs.declared.Subject.the-variants.{Constraint, Answer, Values, Verdicts, Output, Call, Starts, Lists}
+use Rattle.refusal.specs.declared.Subject.the-variants.{Constraint, Answer, Values, Verdicts, Output, Call, Starts, Lists, Results}
 use Rattle.refusal.specs.declared.Label.{Label}
 
 -- the bytes of a text in ASCII
@@ -23,6 +23,7 @@ subjectWord Output = ascii "output"
 subjectWord Call = ascii "call"
 subjectWord Starts = ascii "starts"
 subjectWord Lists = ascii "lists"
+subjectWord Results = ascii "results"
 
 -- a word as the call gives it: filled up with spaces to the longest word's ten bytes
 abbrev pub label : List ℕ → Label

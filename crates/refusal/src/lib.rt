@@ -1,5 +1,7 @@
 // A refusal: its number, what it speaks of, and the position there.
 ghost use mathlib.Core.Path.{_≡_};
+ghost use Rattle.refusal.specs.declared.Gate.the-variants.{Bar};
+ghost use Rattle.refusal.specs.Result.{refusal as refusalOf};
 ghost use Rattle.refusal.specs.SubjectWords.{subjectWord, label};
 
 // What a refusal speaks of.
@@ -12,6 +14,7 @@ pub enum Subject {
     Call,
     Starts,
     Lists,
+    Results,
 }
 
 pub struct Refusal {
@@ -72,6 +75,22 @@ impl Refusal {
     pub const WRONG_INDEX: u8 = 25;
 }
 
+// Tests in a row: all passed, or the refusal of the first that did not.
+pub enum Gate {
+    Pass,
+    Bar(Refusal),
+}
+
+pub fn bar(number: u8, subject: Subject, position: usize) -> Gate
+    ensures { λ r. ⌜ r ≡ Bar (refusalOf subject number position) ⌝ }
+{
+    Gate::Bar(Refusal {
+        number,
+        subject,
+        position,
+    })
+}
+
 // A word of a report: the first `len` of `bytes`, with spaces behind it.
 pub struct Label {
     pub bytes: [u8; 10],
@@ -114,6 +133,10 @@ impl Subject {
             Subject::Lists => Label {
                 bytes: *b"lists     ",
                 len: 5,
+            },
+            Subject::Results => Label {
+                bytes: *b"results   ",
+                len: 7,
             },
         }
     }

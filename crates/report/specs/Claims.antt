@@ -3,10 +3,9 @@ use Prim.Native.Nat.{ℕ}
 use mathlib.Core.Path.{_≡_}
 use mathlib.Core.Logic.{_↔_}
 use mathlib.Core.List.{List, _++_}
-use Rattle.edition.specs.Edition.{maxVariables, maxLines}
 use Rattle.refusal.specs.SubjectWords.{ascii}
 use Rattle.tables.specs.Report.{reportOutcome}
-use Rattle.tables.specs.Claims.{Satisfies}
+use Rattle.tables.specs.Claims.{Satisfies, anyRoom}
 use Rattle.report.specs.Text.{reportText}
 
 -- the text of the report on an answer
@@ -17,7 +16,7 @@ reportOn constraint answer = reportText (reportOutcome constraint answer)
 abbrev pub PrintedExactly : Type 0
 PrintedExactly =
     (constraint answer : List ℕ)
-    → ((rest : List ℕ) × (reportOn constraint answer ≡ ascii "satisfied\n" ++ rest)) ↔ Satisfies constraint answer maxVariables maxLines
+    → ((rest : List ℕ) × (reportOn constraint answer ≡ ascii "satisfied\n" ++ rest)) ↔ Satisfies constraint answer anyRoom
 
 -- ONE CASE WHOLE
 

@@ -1,5 +1,5 @@
-// Cases of two files and two tables, as standard input has them: a line of 38 bytes, and the bytes of the files.
-// The line has a letter and four numbers of eight hexadecimal digits: the lengths of the constraint file and of the answer, and the entries of the value table and of the verdict table.
+// Cases of two files and three tables, as standard input has them: a line of 47 bytes, and the bytes of the files.
+// The line has a letter and five numbers of eight hexadecimal digits: the lengths of the constraint file and of the answer, and the entries of the tables of values, verdicts and results.
 use super::hex;
 use super::next_bytes;
 ghost use Rattle.reporting.specs.CaseRooms.{Roomy};
@@ -11,12 +11,14 @@ pub const VALUES: usize = 300;
 
 pub const VERDICTS: usize = 1100;
 
+pub const RESULTS: usize = 1100;
+
 // What stands in a table of verdicts before a call.
 pub const NO_VERDICT: u8 = 7;
 
-const HEADER: usize = 38;
+const HEADER: usize = 47;
 
-// Where the four numbers of a header stand.
+// Where the five numbers of a header stand.
 const FIRST: usize = 2;
 
 const SECOND: usize = 11;
@@ -25,6 +27,8 @@ const THIRD: usize = 20;
 
 const FOURTH: usize = 29;
 
+const FIFTH: usize = 38;
+
 const NUMBER: usize = 8;
 
 pub struct Sizes {
@@ -32,6 +36,7 @@ pub struct Sizes {
     pub answer: usize,
     pub values: usize,
     pub verdicts: usize,
+    pub results: usize,
 }
 
 pub enum NextCase {
@@ -45,6 +50,7 @@ fn read_header(header: &[u8; HEADER]) -> Sizes {
         answer: hex(header, SECOND, SECOND + NUMBER) as usize,
         values: hex(header, THIRD, THIRD + NUMBER) as usize,
         verdicts: hex(header, FOURTH, FOURTH + NUMBER) as usize,
+        results: hex(header, FIFTH, FIFTH + NUMBER) as usize,
     }
 }
 
@@ -67,6 +73,9 @@ pub fn next_case() -> NextCase
         return NextCase::End;
     }
     if VERDICTS < s.verdicts {
+        return NextCase::End;
+    }
+    if RESULTS < s.results {
         return NextCase::End;
     }
     NextCase::Case(s)

@@ -10,7 +10,7 @@ use refusal::Refusal;
 
 pub mod cases;
 
-// What stands in a table before a call: each entry is this much more than the one before it.
+// What stands in a table before a call: each entry is this much more, or less, than the one before it.
 const STEP: u64 = 1000003;
 
 fn digit(c: u8) -> u64
@@ -68,6 +68,22 @@ pub fn fill(table: &mut [u64]) {
     while i < table.len() {
         v = next_entry(v);
         table[i] = v;
+        i += 1;
+    }
+}
+
+// The entry behind one with the value v, downwards.
+fn lower_entry(v: u64) -> u64 {
+    if v >= STEP { v - STEP } else { v }
+}
+
+// Fills a table from the largest word down, so that no entry is one of those that `fill` puts.
+pub fn fill_down(table: &mut [u64]) {
+    let mut v = u64::MAX;
+    let mut i = 0;
+    while i < table.len() {
+        table[i] = v;
+        v = lower_entry(v);
         i += 1;
     }
 }

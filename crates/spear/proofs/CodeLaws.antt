@@ -44,9 +44,9 @@ zero-kind word e = rw e
 
 pub kind-zero-exactly : KindZeroExactly
 unfolding verdictWord
-kind-zero-exactly constraint answer values verdicts =
-    let both = satisfied-exactly constraint answer values verdicts in
-    (λ e. both .0 (sym (check-kept constraint answer values verdicts) ∙ zero-kind (packCheck (checkOutcome constraint answer values verdicts .reply)) e), λ s. ap (λ r. kindIn (packCheck r)) (both .1 s))
+kind-zero-exactly constraint answer t =
+    let both = satisfied-exactly constraint answer t in
+    (λ e. both .0 (sym (check-kept constraint answer t) ∙ zero-kind (packCheck (checkOutcome constraint answer t .reply)) e), λ s. ap (λ r. kindIn (packCheck r)) (both .1 s))
 
 -- ---- no other number
 module _ (constraint answer : List ℕ) where

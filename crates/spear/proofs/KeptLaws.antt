@@ -16,8 +16,8 @@ use Rattle.constraint.proofs.SoundLaws.{accepted-is-sound, read-short}
 use Rattle.judge.specs.declared.Overall.{Overall}
 use Rattle.judge.specs.declared.Overall.the-variants.{Satisfied, Violated, Disregarded}
 use Rattle.judge.specs.Judge.{freshVerdicts, overallOf}
-use Rattle.judge.specs.InUse.{rowInUse, verdictsInUse}
-use Rattle.judge.proofs.VerdictLaws.{verdicts-length}
+use Rattle.judge.specs.InUse.{Tables, rowInUse, columnInUse, roomOf}
+use Rattle.judge.proofs.VerdictLaws.{column-length}
 use Rattle.judge.proofs.OverallLaws.{Named, overall-named}
 use Rattle.printing.specs.Output.{written}
 use Rattle.writer.specs.Write.{writingFor, writing, writeOutcome}
@@ -31,7 +31,7 @@ use Rattle.index.specs.AnyIndex.{concerned}
 use Rattle.index.proofs.SelectLaws.{concerned-length}
 use Rattle.index.proofs.CountLaws.{lists-at-most}
 use Rattle.index.proofs.BuiltLaws.{indexing-yields}
-use Rattle.moves.specs.Step.{Tables, renewed, step}
+use Rattle.moves.specs.Step.{renewed, step}
 use Rattle.moves.specs.Gate.{Call, admitted}
 use Rattle.moves.specs.Change.{made, changed, changeBy, changeOutcome}
 use Rattle.tables.proofs.CheckingLaws.{checking-steps}
@@ -52,15 +52,15 @@ line-most : (vs : List ℕ) → decidingLine (overallOf vs) ≤ length vs
 line-most vs = named-most (overallOf vs) vs (overall-named vs)
 
 -- ---- the check
-module _ (constraint answer values verdicts : List ℕ) where
-  checked-fits : (r : Result (File × List ℕ)) → checking constraint answer values verdicts ≡ r → CheckFits (checked values verdicts r .reply)
+module _ (constraint answer : List ℕ) (t : Tables) where
+  checked-fits : (r : Result (File × List ℕ)) → checking constraint answer (roomOf t) ≡ r → CheckFits (checked t r .reply)
   checked-fits (accepted (f, row)) e =
-      let sound = accepted-is-sound constraint f (checking-steps constraint answer values verdicts f row e .file) in
-      omega (arith, line-most (freshVerdicts f row), verdicts-length (f .variables) row (f .lines), sound .few-lines)
-  checked-fits (refused x) e = checking-fits constraint answer values verdicts .holds x e
+      let sound = accepted-is-sound constraint f (checking-steps constraint answer (roomOf t) f row e .file) in
+      omega (arith, line-most (freshVerdicts f row), column-length (λ j. j .verdict) (f .variables) row (f .lines), sound .few-lines)
+  checked-fits (refused x) e = checking-fits constraint answer (roomOf t) .holds x e
 
-  pub check-fits : CheckFits (checkOutcome constraint answer values verdicts .reply)
-  check-fits = checked-fits (checking constraint answer values verdicts) refl
+  pub check-fits : CheckFits (checkOutcome constraint answer t .reply)
+  check-fits = checked-fits (checking constraint answer (roomOf t)) refl
 
 -- ---- the change
 module _ (t : Tables) (c : Call) where
@@ -70,12 +70,12 @@ module _ (t : Tables) (c : Call) where
       let m = length (f .lines) in
       let i = c .change .variable in
       let row = set (rowInUse f (t .values)) i (c .change .value) in
-      let held = verdictsInUse f (t .verdicts) in
-      let held-long = length-take-le m (t .verdicts) (p .is-entitled .verdicts-room) in
+      let held = columnInUse f (t .verdicts) in
+      let held-long = length-take-le m (t .verdicts) (p .is-entitled .has-room .verdicts) in
       let lines = concerned f (c .index) i in
       let new = renewed lines (freshVerdicts f row) held in
       record {
-        line = omega (arith, line-most new, new-long f (c .index) i row held held-long, held-long, sound .few-lines);
+        line = omega (arith, line-most new, new-long (λ j. j .verdict) f (c .index) i row held held-long, held-long, sound .few-lines);
         named = omega (arith, many-most (λ b. b) lines, concerned-length f (c .index) i, sound .few-lines);
         altered = omega (arith, differing-most held new, held-long, sound .few-lines);
         bits = omega (arith, bits-most wordBits (getD (rowInUse f (t .values)) i 0) (c .change .value));
@@ -116,7 +116,7 @@ module _ (values output : List ℕ) where
 
 -- ---- nothing is lost
 pub check-kept : CheckKept
-check-kept constraint answer values verdicts = check-back (checkOutcome constraint answer values verdicts .reply) (check-fits constraint answer values verdicts)
+check-kept constraint answer t = check-back (checkOutcome constraint answer t .reply) (check-fits constraint answer t)
 
 pub change-kept : ChangeKept
 change-kept constraint t c = change-back (changeOutcome constraint t c .reply) (by-fits t c constraint (readFile constraint) refl)

@@ -6,7 +6,7 @@ use native.Mathlib.Omega.{arith}
 use lib.Dec.{eqb}
 use Rattle.refusal.specs.declared.Refusal.{Refusal}
 use Rattle.refusal.specs.declared.Subject.{Subject}
-use Rattle.refusal.specs.declared.Subject.the-variants.{Constraint, Answer, Values, Verdicts, Output, Call, Starts, Lists}
+use Rattle.refusal.specs.declared.Subject.the-variants.{Constraint, Answer, Values, Verdicts, Output, Call, Starts, Lists, Results}
 use Rattle.judge.specs.declared.Overall.{Overall}
 use Rattle.judge.specs.declared.Overall.the-variants.{Satisfied, Violated, Disregarded}
 use Rattle.judge.specs.Judge.{overallNumber}
@@ -76,6 +76,7 @@ subject-small Output = omega arith
 subject-small Call = omega arith
 subject-small Starts = omega arith
 subject-small Lists = omega arith
+subject-small Results = omega arith
 
 subject-back : (s : Subject) → subjectIn (subjectNumber s) ≡ s
 subject-back Constraint = refl
@@ -86,6 +87,7 @@ subject-back Output = refl
 subject-back Call = refl
 subject-back Starts = refl
 subject-back Lists = refl
+subject-back Results = refl
 
 -- ---- a refusal in range
 pub record RefusalFits (r : Refusal) : Type 0 where

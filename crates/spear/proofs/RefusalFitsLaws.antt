@@ -8,7 +8,7 @@ use lib.Dec.{ltb, leb}
 use lib.ListN.{length, length-take}
 use Rattle.refusal.specs.declared.Refusal.{Refusal}
 use Rattle.refusal.specs.declared.Subject.{Subject}
-use Rattle.refusal.specs.declared.Subject.the-variants.{Values, Verdicts, Output, Call as CallsNumbers, Starts, Lists}
+use Rattle.refusal.specs.declared.Subject.the-variants.{Values, Verdicts, Output, Call as CallsNumbers, Starts, Lists, Results}
 use Rattle.refusal.specs.Numbers.{valueDoesNotFit, tooShort, notSatisfied, noSuchVariable, heldDoesNotFit, wrongIndex}
 use Rattle.refusal.specs.Lists.{firstFrom}
 use Rattle.refusal.specs.Result.{refusal}
@@ -18,7 +18,8 @@ use Rattle.constraint.specs.File.{Variable, File, widthAt}
 use Rattle.constraint.specs.Read.{readFile}
 use Rattle.constraint.specs.Sound.{SoundFile}
 use Rattle.judge.specs.Judge.{verdictDisregarded, freshVerdicts, overallOf}
-use Rattle.judge.specs.InUse.{rowInUse, verdictsInUse, valueWords, firstUnfit}
+use Rattle.judge.specs.InUse.{Tables, rowInUse, columnInUse, Room, roomOf, tablesRoom, valueWords, firstUnfit}
+use Rattle.judge.proofs.RoomLaws.{room-refuses}
 use Rattle.judge.proofs.UnfitLaws.{unfit}
 use Rattle.answer.specs.Read.{readAnswer}
 use Rattle.writer.specs.Text.{answerText}
@@ -28,7 +29,7 @@ use Rattle.tables.specs.Check.{checkingFor, checking}
 use Rattle.clean.specs.Clean.{cleaning}
 use Rattle.index.specs.Index.{Index, ownIndex, indexing}
 use Rattle.index.specs.AnyIndex.{startsFit, listsFit, indexFits}
-use Rattle.moves.specs.Step.{Tables, Change}
+use Rattle.moves.specs.Step.{Change}
 use Rattle.moves.specs.Gate.{Call, changeFits, entitled, admitted}
 use Rattle.spear.proofs.PackLaws.{RefusalFits}
 use Rattle.spear.proofs.FileNumberLaws.{FileNumber, file-numbered, answer-numbered}
@@ -49,14 +50,17 @@ answer-fits xs answer = refuses-also number-fits (answer-numbered xs answer)
 at-start : (s : Subject) (n : ℕ) → n < 2 ^ 8 → RefusalFits (refusal s n 0)
 at-start s n h = record { number = h; position = omega arith }
 
-pub checking-fits : (constraint answer values verdicts : List ℕ) → Refuses RefusalFits (checking constraint answer values verdicts)
+-- the room of the tables
+tables-fit : (f : File) (lent : Room) → Refuses RefusalFits (tablesRoom f lent)
+tables-fit f lent = room-refuses f lent (at-start Values tooShort (omega arith)) (at-start Verdicts tooShort (omega arith)) (at-start Results tooShort (omega arith))
+
+pub checking-fits : (constraint answer : List ℕ) (lent : Room) → Refuses RefusalFits (checking constraint answer lent)
 unfolding checking checkingFor
-checking-fits constraint answer values verdicts =
+checking-fits constraint answer lent =
     refuses-bind (file-fits constraint) λ f.
     refuses-bind (refuses-bind (answer-fits (f .variables) answer) λ row.
-    refuses-ensure (leb (length (f .variables)) (length values)) _ (at-start Values tooShort (omega arith)) (
-    refuses-ensure (leb (length (f .lines)) (length verdicts)) _ (at-start Verdicts tooShort (omega arith))
-    refuses-accepted)) λ row.
+    refuses-then (tables-fit f lent)
+    refuses-accepted) λ row.
     refuses-accepted
 
 -- ---- the numbers of a change, its index, and what it finds in the tables
@@ -83,8 +87,8 @@ module _ (f : File) (sound : SoundFile f) (values verdicts : List ℕ) where
   unfolding firstUnfit
   unfit-place i e = record { number = omega arith; position = omega (arith, first-below unfit 0 i (valueWords (f .variables) (rowInUse f values)) e, held-most (f .variables) (rowInUse f values), sound .few-variables) }
 
-  verdict-place : (i : ℕ) → firstFrom (ltb verdictDisregarded) 0 (verdictsInUse f verdicts) ≡ some i → RefusalFits (refusal Verdicts heldDoesNotFit i)
-  verdict-place i e = record { number = omega arith; position = omega (arith, first-below (ltb verdictDisregarded) 0 i (verdictsInUse f verdicts) e, length-take (length (f .lines)) verdicts, sound .few-lines) }
+  verdict-place : (i : ℕ) → firstFrom (ltb verdictDisregarded) 0 (columnInUse f verdicts) ≡ some i → RefusalFits (refusal Verdicts heldDoesNotFit i)
+  verdict-place i e = record { number = omega arith; position = omega (arith, first-below (ltb verdictDisregarded) 0 i (columnInUse f verdicts) e, length-take (length (f .lines)) verdicts, sound .few-lines) }
 
   -- ---- the writing of an answer
   pub writing-fits : (output : List ℕ) → Refuses RefusalFits (writingFor f values output)
@@ -100,11 +104,9 @@ module _ (f : File) (sound : SoundFile f) (values verdicts : List ℕ) where
 pub admitted-fits : (f : File) → SoundFile f → (t : Tables) (c : Call) → Refuses RefusalFits (admitted f t c)
 unfolding admitted entitled
 admitted-fits f sound t c =
-    refuses-then (refuses-ensure (leb (length (f .variables)) (length (t .values))) _ (at-start Values tooShort (omega arith)) (
-    refuses-ensure (leb (length (f .lines)) (length (t .verdicts))) _ (at-start Verdicts tooShort (omega arith))
-    (numbers-fit f (c .change)))) (
+    refuses-then (refuses-then (tables-fit f (roomOf t)) (numbers-fit f (c .change))) (
     refuses-then (refuses-none (firstUnfit (f .variables) (rowInUse f (t .values))) _ (unfit-place f sound (t .values) (t .verdicts))) (
-    refuses-then (refuses-none (firstFrom (ltb verdictDisregarded) 0 (verdictsInUse f (t .verdicts))) _ (verdict-place f sound (t .values) (t .verdicts)))
+    refuses-then (refuses-none (firstFrom (ltb verdictDisregarded) 0 (columnInUse f (t .verdicts))) _ (verdict-place f sound (t .values) (t .verdicts)))
     (index-fits f (c .index))))
 
 -- ---- the building of an index

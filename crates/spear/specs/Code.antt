@@ -3,12 +3,11 @@ use Prim.Native.Nat.{ℕ, _+_, _≤_}
 use mathlib.Core.Path.{_≡_}
 use mathlib.Core.Logic.{_↔_}
 use mathlib.Core.List.{List}
-use Rattle.edition.specs.Edition.{maxVariables, maxLines}
 use Rattle.judge.specs.Judge.{overallNumber}
 use Rattle.tables.specs.declared.Report.{Report}
 use Rattle.tables.specs.declared.Report.the-variants.{Tallied, Refused}
 use Rattle.tables.specs.Report.{reportOutcome}
-use Rattle.tables.specs.Claims.{Satisfies}
+use Rattle.tables.specs.Claims.{Satisfies, anyRoom}
 
 -- the number of a report
 abbrev pub codeOf : Report → ℕ
@@ -23,7 +22,7 @@ checkCode constraint answer = codeOf (reportOutcome constraint answer)
 
 -- it is 0 exactly when the answer satisfies the constraint file
 abbrev pub ZeroExactly : Type 0
-ZeroExactly = (constraint answer : List ℕ) → (checkCode constraint answer ≡ 0) ↔ Satisfies constraint answer maxVariables maxLines
+ZeroExactly = (constraint answer : List ℕ) → (checkCode constraint answer ≡ 0) ↔ Satisfies constraint answer anyRoom
 
 -- it is 0, 1 or 2, or 101 to 120
 pub data IsCode (n : ℕ) : Type 0 where

@@ -5,14 +5,14 @@ use mathlib.Core.Bool.{cond}
 use mathlib.Core.Logic.{_↔_}
 use mathlib.Core.List.{List}
 use lib.Dec.{eqb}
-use lib.ListN.{length}
 use Rattle.refusal.specs.declared.Refusal.{Refusal}
 use Rattle.refusal.specs.declared.Subject.{Subject}
-use Rattle.refusal.specs.declared.Subject.the-variants.{Constraint, Answer, Values, Verdicts, Output, Call, Starts, Lists}
+use Rattle.refusal.specs.declared.Subject.the-variants.{Constraint, Answer, Values, Verdicts, Output, Call, Starts, Lists, Results}
 use Rattle.refusal.specs.Result.{refusal}
 use Rattle.judge.specs.Judge.{overallNumber}
 use Rattle.judge.specs.declared.Overall.{Overall}
 use Rattle.judge.specs.declared.Overall.the-variants.{Satisfied, Violated, Disregarded}
+use Rattle.judge.specs.InUse.{Tables, roomOf}
 use Rattle.moves.specs.declared.Effect.{Effect}
 use Rattle.tables.specs.declared.CheckReply.{CheckReply}
 use Rattle.tables.specs.declared.CheckReply.the-variants.{Checked, Refused as CheckRefused}
@@ -28,7 +28,6 @@ use Rattle.clean.specs.Clean.{cleanOutcome}
 use Rattle.index.specs.declared.IndexReply.{IndexReply}
 use Rattle.index.specs.declared.IndexReply.the-variants.{Indexed, Refused as IndexRefused}
 use Rattle.index.specs.Index.{IndexOutcome, indexOutcome}
-use Rattle.moves.specs.Step.{Tables}
 use Rattle.moves.specs.Gate.{Call as ChangeCall}
 use Rattle.moves.specs.Change.{Outcome, changeOutcome}
 
@@ -70,6 +69,7 @@ subjectNumber Output = 4
 subjectNumber Call = 5
 subjectNumber Starts = 6
 subjectNumber Lists = 7
+subjectNumber Results = 8
 
 abbrev pub packRefusal : Refusal → ℕ
 packRefusal r = refusalWord (r .number) (subjectNumber (r .subject)) (r .position)
@@ -103,7 +103,7 @@ abbrev pub overallIn : ℕ → Overall
 overallIn word = cond (eqb (kindIn word) 0) Satisfied (cond (eqb (kindIn word) 1) (Violated (bitsFrom word 8 16)) (Disregarded (bitsFrom word 8 16)))
 
 abbrev pub subjectIn : ℕ → Subject
-subjectIn n = cond (eqb n 0) Constraint (cond (eqb n 1) Answer (cond (eqb n 2) Values (cond (eqb n 3) Verdicts (cond (eqb n 4) Output (cond (eqb n 5) Call (cond (eqb n 6) Starts Lists))))))
+subjectIn n = cond (eqb n 0) Constraint (cond (eqb n 1) Answer (cond (eqb n 2) Values (cond (eqb n 3) Verdicts (cond (eqb n 4) Output (cond (eqb n 5) Call (cond (eqb n 6) Starts (cond (eqb n 7) Lists Results)))))))
 
 abbrev pub refusalIn : ℕ → Refusal
 refusalIn word = refusal (subjectIn (bitsFrom word 16 8)) (bitsFrom word 8 8) (bitsFrom word 24 40)
@@ -127,7 +127,7 @@ indexIn word = cond (eqb (kindIn word) kindRefused) (IndexRefused (refusalIn wor
 
 -- what a call answers is what its word unpacks to
 abbrev pub CheckKept : Type 0
-CheckKept = (constraint answer values verdicts : List ℕ) → checkIn (packCheck (checkOutcome constraint answer values verdicts .reply)) ≡ checkOutcome constraint answer values verdicts .reply
+CheckKept = (constraint answer : List ℕ) (t : Tables) → checkIn (packCheck (checkOutcome constraint answer t .reply)) ≡ checkOutcome constraint answer t .reply
 
 abbrev pub ChangeKept : Type 0
 ChangeKept = (constraint : List ℕ) (t : Tables) (c : ChangeCall) → changeIn (packChange (changeOutcome constraint t c .reply)) ≡ changeOutcome constraint t c .reply
@@ -144,20 +144,19 @@ WriteKept = (constraint values output : List ℕ) → writeIn (packWrite (writeO
 -- DEMAND 2: the kind of a check's word is 0 exactly when the answer satisfies the constraint file and the tables are long enough
 abbrev pub KindZeroExactly : Type 0
 KindZeroExactly =
-    (constraint answer values verdicts : List ℕ)
-    → (kindIn (packCheck (checkOutcome constraint answer values verdicts .reply)) ≡ 0) ↔ Satisfies constraint answer (length values) (length verdicts)
+    (constraint answer : List ℕ) (t : Tables)
+    → (kindIn (packCheck (checkOutcome constraint answer t .reply)) ≡ 0) ↔ Satisfies constraint answer (roomOf t)
 
--- THE CALLS: the word and the two tables at exit
+-- THE CALLS: the word and the tables at exit
 pub record Packed : Type 0 where
   pub word : ℕ
-  pub values : List ℕ
-  pub verdicts : List ℕ
+  pub tables : Tables
 
 abbrev pub packedCheck : CheckOutcome → Packed
-packedCheck o = record { word = packCheck (o .reply); values = o .values; verdicts = o .verdicts }
+packedCheck o = record { word = packCheck (o .reply); tables = o .tables }
 
 abbrev pub packedChange : Outcome → Packed
-packedChange o = record { word = packChange (o .reply); values = o .tables .values; verdicts = o .tables .verdicts }
+packedChange o = record { word = packChange (o .reply); tables = o .tables }
 
 -- of the building of an index: the word and its two tables at exit
 pub record PackedIndex : Type 0 where

@@ -14,11 +14,11 @@ use tables::reports::report;
 use writer::write;
 ghost use mathlib.Core.Path.{_≡_};
 ghost use mathlib.Core.Option.{none, some};
+ghost use Rattle.judge.specs.InUse.{tablesOf};
 ghost use Rattle.tables.specs.Check.{checkOutcome};
 ghost use Rattle.writer.specs.Write.{writeOutcome};
 ghost use Rattle.clean.specs.Clean.{cleanOutcome};
 ghost use Rattle.index.specs.Index.{indexOf, indexOutcome};
-ghost use Rattle.moves.specs.Step.{tablesOf};
 ghost use Rattle.moves.specs.Gate.{changing};
 ghost use Rattle.moves.specs.Change.{changeOutcome};
 ghost use Rattle.spear.specs.Code.{codeOf, checkCode};
@@ -54,10 +54,11 @@ pub extern "C" fn spear_check_tables(
     answer: &[u8],
     values: &mut [u64],
     verdicts: &mut [u8],
+    results: &mut [u64],
 ) -> u64
-    ensures { λ r. ⌜ record { word = r; values = now (values .exit); verdicts = now (verdicts .exit) } ≡ packedCheck (checkOutcome (now (constraints .entry)) (now (answer .entry)) (now (values .entry)) (now (verdicts .entry))) ⌝ }
+    ensures { λ r. ⌜ record { word = r; tables = tablesOf (now (values .exit)) (now (verdicts .exit)) (now (results .exit)) } ≡ packedCheck (checkOutcome (now (constraints .entry)) (now (answer .entry)) (tablesOf (now (values .entry)) (now (verdicts .entry)) (now (results .entry)))) ⌝ }
 {
-    pack_check(check(constraints, answer, values, verdicts))
+    pack_check(check(constraints, answer, values, verdicts, results))
 }
 
 // The change of a variable, from 0, to a value, on the caller's tables.
@@ -66,12 +67,13 @@ pub extern "C" fn spear_change(
     constraints: &[u8],
     values: &mut [u64],
     verdicts: &mut [u8],
+    results: &mut [u64],
     variable: usize,
     value: u64,
 ) -> u64
-    ensures { λ r. ⌜ record { word = r; values = now (values .exit); verdicts = now (verdicts .exit) } ≡ packedChange (changeOutcome (now (constraints .entry)) (tablesOf (now (values .entry)) (now (verdicts .entry))) (changing variable value none)) ⌝ }
+    ensures { λ r. ⌜ record { word = r; tables = tablesOf (now (values .exit)) (now (verdicts .exit)) (now (results .exit)) } ≡ packedChange (changeOutcome (now (constraints .entry)) (tablesOf (now (values .entry)) (now (verdicts .entry)) (now (results .entry))) (changing variable value none)) ⌝ }
 {
-    pack_change(change(constraints, values, verdicts, variable, value))
+    pack_change(change(constraints, values, verdicts, results, variable, value))
 }
 
 // The index of a constraint file, into the caller's two tables.
@@ -88,17 +90,19 @@ pub extern "C" fn spear_change_through(
     constraints: &[u8],
     values: &mut [u64],
     verdicts: &mut [u8],
+    results: &mut [u64],
     starts: &[u32],
     lists: &[u32],
     variable: usize,
     value: u64,
 ) -> u64
-    ensures { λ r. ⌜ record { word = r; values = now (values .exit); verdicts = now (verdicts .exit) } ≡ packedChange (changeOutcome (now (constraints .entry)) (tablesOf (now (values .entry)) (now (verdicts .entry))) (changing variable value (some (indexOf (now (starts .entry)) (now (lists .entry)))))) ⌝ }
+    ensures { λ r. ⌜ record { word = r; tables = tablesOf (now (values .exit)) (now (verdicts .exit)) (now (results .exit)) } ≡ packedChange (changeOutcome (now (constraints .entry)) (tablesOf (now (values .entry)) (now (verdicts .entry)) (now (results .entry))) (changing variable value (some (indexOf (now (starts .entry)) (now (lists .entry)))))) ⌝ }
 {
     pack_change(change_through(
         constraints,
         values,
         verdicts,
+        results,
         starts,
         lists,
         variable,

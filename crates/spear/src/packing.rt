@@ -81,6 +81,7 @@ fn subject_number(subject: Subject) -> u64
         Subject::Call => 5,
         Subject::Starts => 6,
         Subject::Lists => 7,
+        Subject::Results => 8,
     }
 }
 

@@ -20,7 +20,8 @@ use Rattle.constraint.specs.TypeRules.{ruleWord, resultWidth, constantRule, pre
 use Rattle.spelling.specs.Operators.{bitwiseSpellings, predicateSpellings, arithmeticSpellings, shiftAndCastSpellings, spellings, operatorSpelt}
 use Rattle.constraint.specs.Read.{inHeader, readSingle, versionOf, readVersion, declare, declareAll, readDeclarations, readVariable, readOperand, nextOperand, readOperands, readOperation, nextOutput, readStatement, kindOf, readAs, readLine, readFile}
 use Rattle.judge.specs.declared.Overall.the-variants.{Satisfied}
-use Rattle.judge.specs.Judge.{resultOf, judge, verdictsOf, firstVerdict, overallOf}
+use Rattle.judge.specs.Judge.{resultOf, judge, columnOf, firstVerdict, overallOf}
+use Rattle.judge.specs.InUse.{Tables, tablesOf, tablesRoom}
 use Rattle.answer.specs.Read as answer
 use Rattle.tables.specs.declared.CheckReply.the-variants.{Checked, Refused}
 use Rattle.tables.specs.Check.{checkingFor, checking, checkOutcome}
@@ -33,17 +34,24 @@ example = ascii "v 1.0\nd hi:i16 lo:i16 r:i32\nc r conc hi lo\n"
 abbrev exampleAnswer : List ℕ
 exampleAnswer = ascii "s SATISFIABLE\nv hi=17056 lo=17060 r=1117799076\n"
 
-example-satisfied : checkOutcome example exampleAnswer (0 ∷ 0 ∷ 0 ∷ []) (0 ∷ []) .reply ≡ Checked Satisfied
-unfolding editionNumbered isWidth every firstFrom arity widthsHold joins typed valueOf meaning same frontOf isSpace isLineFeed isCarriageReturn isAllowed isDigit isLetter isNameByte terminatorLength contentOf lineLength lineOf linesFrom tokenOf tokensFrom leads isName isNumeral decimalFrom leadingZero isType upTo behind readAnyLine readLines readText variableNamed widthAt operandWord target ruleWord resultWidth constantRule predicateRule wellTyped bitwiseSpellings predicateSpellings arithmeticSpellings shiftAndCastSpellings spellings operatorSpelt inHeader readSingle versionOf readVersion declare declareAll readDeclarations readVariable readOperand nextOperand readOperands readOperation nextOutput readStatement kindOf readAs readLine readFile resultOf judge verdictsOf firstVerdict overallOf answer.solutionOf answer.readWord answer.readSolution answer.settingOf answer.readSetting answer.readSettings answer.readValues answer.answerKind answer.readAnswerAs answer.readAnswerLine answer.allSet answer.readAnswer checkingFor checking
+-- tables that are just long enough, and some with no entry
+abbrev exampleTables : Tables
+exampleTables = tablesOf (0 ∷ 0 ∷ 0 ∷ []) (0 ∷ []) (0 ∷ [])
+
+abbrev noTables : Tables
+noTables = tablesOf [] [] []
+
+example-satisfied : checkOutcome example exampleAnswer exampleTables .reply ≡ Checked Satisfied
+unfolding editionNumbered isWidth every firstFrom arity widthsHold joins typed valueOf meaning same frontOf isSpace isLineFeed isCarriageReturn isAllowed isDigit isLetter isNameByte terminatorLength contentOf lineLength lineOf linesFrom tokenOf tokensFrom leads isName isNumeral decimalFrom leadingZero isType upTo behind readAnyLine readLines readText variableNamed widthAt operandWord target ruleWord resultWidth constantRule predicateRule wellTyped bitwiseSpellings predicateSpellings arithmeticSpellings shiftAndCastSpellings spellings operatorSpelt inHeader readSingle versionOf readVersion declare declareAll readDeclarations readVariable readOperand nextOperand readOperands readOperation nextOutput readStatement kindOf readAs readLine readFile resultOf judge columnOf tablesRoom firstVerdict overallOf answer.solutionOf answer.readWord answer.readSolution answer.settingOf answer.readSetting answer.readSettings answer.readValues answer.answerKind answer.readAnswerAs answer.readAnswerLine answer.allSet answer.readAnswer checkingFor checking
 example-satisfied = refl
 
 -- empty files
-empty-refused : checkOutcome [] [] [] [] .reply ≡ Refused (refusal Constraint misplacedLine 0)
+empty-refused : checkOutcome [] [] noTables .reply ≡ Refused (refusal Constraint misplacedLine 0)
 unfolding readLines readText linesFrom readFile checking
 empty-refused = refl
 
 pub not-all-refused : NotAllRefused
-not-all-refused check meets all = let p = all example exampleAnswer (0 ∷ 0 ∷ 0 ∷ []) (0 ∷ []) in never (cc (sym (p .1) ∙ meets example exampleAnswer (0 ∷ 0 ∷ 0 ∷ []) (0 ∷ []) ∙ example-satisfied))
+not-all-refused check meets all = let p = all example exampleAnswer exampleTables in never (cc (sym (p .1) ∙ meets example exampleAnswer exampleTables ∙ example-satisfied))
 
 pub not-all-satisfied : NotAllSatisfied
-not-all-satisfied check meets all = never (cc (sym (all [] [] [] []) ∙ meets [] [] [] [] ∙ empty-refused))
+not-all-satisfied check meets all = never (cc (sym (all [] [] noTables) ∙ meets [] [] noTables ∙ empty-refused))

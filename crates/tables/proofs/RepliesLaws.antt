@@ -9,7 +9,8 @@ use Rattle.constraint.specs.Read.{readFile}
 use Rattle.judge.specs.declared.Overall.{Overall}
 use Rattle.judge.specs.declared.Overall.the-variants.{Satisfied, Violated, Disregarded}
 use Rattle.judge.specs.Judge.{freshVerdicts, overallOf}
-use Rattle.judge.proofs.VerdictLaws.{verdicts-length}
+use Rattle.judge.specs.InUse.{Tables, roomOf}
+use Rattle.judge.proofs.VerdictLaws.{column-length}
 use Rattle.tables.specs.declared.CheckReply.the-variants.{Checked}
 use Rattle.tables.specs.Check.{checking, checked}
 use Rattle.tables.specs.Replies.{LineOfFile, IsReply, OneReply}
@@ -29,11 +30,11 @@ module _ (constraint : List ℕ) where
     verdict-reply (Disregarded n) p = line-of n p
 
   -- and so is what a check is accepted or refused with
-  is-reply : (answer values verdicts : List ℕ) (r : Result (File × List ℕ)) → checking constraint answer values verdicts ≡ r → IsReply constraint (checked values verdicts r .reply)
-  is-reply answer values verdicts (accepted (f, row)) e =
+  is-reply : (answer : List ℕ) (t : Tables) (r : Result (File × List ℕ)) → checking constraint answer (roomOf t) ≡ r → IsReply constraint (checked t r .reply)
+  is-reply answer t (accepted (f, row)) e =
       let vs = freshVerdicts f row in
-      verdict-reply f (checking-steps constraint answer values verdicts f row e .file) vs (verdicts-length (f .variables) row (f .lines)) (overallOf vs) (overall-named vs)
-  is-reply answer values verdicts (refused x) e = checking-refuses constraint answer values verdicts .holds x e
+      verdict-reply f (checking-steps constraint answer (roomOf t) f row e .file) vs (column-length (λ j. j .verdict) (f .variables) row (f .lines)) (overallOf vs) (overall-named vs)
+  is-reply answer t (refused x) e = checking-refuses constraint answer (roomOf t) .holds x e
 
 pub one-reply : OneReply
-one-reply constraint answer values verdicts = is-reply constraint answer values verdicts (checking constraint answer values verdicts) refl
+one-reply constraint answer t = is-reply constraint answer t (checking constraint answer (roomOf t)) refl

@@ -5,7 +5,7 @@ use mathlib.Core.Bool.{true}
 use mathlib.Core.List.{List, [], _∷_}
 use lib.ListN.{length}
 use Rattle.refusal.specs.declared.Subject.{Subject}
-use Rattle.refusal.specs.declared.Subject.the-variants.{Constraint, Answer, Values, Verdicts, Output, Call, Starts, Lists}
+use Rattle.refusal.specs.declared.Subject.the-variants.{Constraint, Answer, Values, Verdicts, Output, Call, Starts, Lists, Results}
 use Rattle.refusal.specs.Numbers.{tooShort}
 use Rattle.refusal.specs.Lists.{isOneOf}
 use Rattle.refusal.specs.Result.{accepted}
@@ -13,6 +13,7 @@ use Rattle.constraint.specs.File.{File}
 use Rattle.constraint.specs.Read.{readFile}
 use Rattle.constraint.specs.Refusals.{constraintNumbers}
 use Rattle.judge.specs.declared.Overall.the-variants.{Satisfied, Violated, Disregarded}
+use Rattle.judge.specs.InUse.{Tables}
 use Rattle.answer.specs.Refusals.{answerNumbers}
 use Rattle.tables.specs.declared.CheckReply.{CheckReply}
 use Rattle.tables.specs.declared.CheckReply.the-variants.{Checked, Refused}
@@ -28,6 +29,7 @@ numbersOf Output = []
 numbersOf Call = []
 numbersOf Starts = []
 numbersOf Lists = []
+numbersOf Results = tooShort ∷ []
 
 -- a line, from 1, of the file that a constraint file says
 pub record LineOfFile (constraint : List ℕ) (n : ℕ) : Type 0 where
@@ -45,4 +47,4 @@ IsReply constraint (Checked (Disregarded n)) = LineOfFile constraint n
 
 -- "Any bytes at all, as constraints or as answer, get one fixed reply"
 abbrev pub OneReply : Type 0
-OneReply = (constraint answer values verdicts : List ℕ) → IsReply constraint (checkOutcome constraint answer values verdicts .reply)
+OneReply = (constraint answer : List ℕ) (t : Tables) → IsReply constraint (checkOutcome constraint answer t .reply)

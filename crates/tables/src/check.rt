@@ -5,31 +5,18 @@ use answer::AnswerRead;
 use answer::reading::read_answer;
 use answer::rows::store_row;
 use edition::Edition;
+use judge::in_use::tables_room;
 use judge::lines::judge_all;
 use judge::verdicts::overall;
 use reader::reading::read;
-use refusal::Refusal;
-use refusal::Subject;
+use refusal::Gate;
 use store::Step;
 use store::lines::TABLE_BODIES;
 use store::lines::TABLE_HEADS;
 ghost use mathlib.Core.Path.{_≡_};
-ghost use Rattle.refusal.specs.Numbers.{tooShort};
-ghost use Rattle.refusal.specs.Result.{refusal as refusalOf};
-ghost use Rattle.tables.specs.declared.Judgement.the-variants.{Stopped};
+ghost use Rattle.judge.specs.InUse.{tablesOf};
 ghost use Rattle.tables.specs.Check.{checkOutcome};
 ghost use Rattle.tables.specs.Internal.{replyOf, CountsLines};
-
-// A table is too short.
-fn too_short(subject: Subject) -> Judgement
-    ensures { λ r. ⌜ r ≡ Stopped (refusalOf subject tooShort 0) ⌝ }
-{
-    Judgement::Stopped(Refusal {
-        number: Refusal::TOO_SHORT,
-        subject,
-        position: 0,
-    })
-}
 
 // The check, and how many lines there are.
 pub(crate) fn check_lines(
@@ -37,8 +24,9 @@ pub(crate) fn check_lines(
     answer: &[u8],
     values: &mut [u64],
     verdicts: &mut [u8],
+    results: &mut [u64],
 ) -> Judgement
-    ensures { λ r. ⌜ (record { reply = replyOf r; values = now (values .exit); verdicts = now (verdicts .exit) } ≡ checkOutcome (now (constraint .entry)) (now (answer .entry)) (now (values .entry)) (now (verdicts .entry))) × CountsLines (now (constraint .entry)) r ⌝ }
+    ensures { λ r. ⌜ (record { reply = replyOf r; tables = tablesOf (now (values .exit)) (now (verdicts .exit)) (now (results .exit)) } ≡ checkOutcome (now (constraint .entry)) (now (answer .entry)) (tablesOf (now (values .entry)) (now (verdicts .entry)) (now (results .entry)))) × CountsLines (now (constraint .entry)) r ⌝ }
 {
     let mut variables = [0u64; Edition::VARIABLES];
     let mut heads = [0u8; TABLE_HEADS];
@@ -52,31 +40,31 @@ pub(crate) fn check_lines(
             match read_answer(constraint, &variables, n, answer, &mut row) {
                 AnswerRead::Fault(r) => Judgement::Stopped(r),
                 AnswerRead::Complete => {
-                    if values.len() < n {
-                        return too_short(Subject::Values);
+                    match tables_room(n, m, values.len(), verdicts.len(), results.len()) {
+                        Gate::Bar(r) => Judgement::Stopped(r),
+                        Gate::Pass => {
+                            store_row(&row, n, values);
+                            judge_all(&heads, &bodies, m, &row[..n], verdicts, results);
+                            Judgement::Done(overall(&verdicts[..m]), m)
+                        }
                     }
-                    if verdicts.len() < m {
-                        return too_short(Subject::Verdicts);
-                    }
-                    store_row(&row, n, values);
-                    judge_all(&heads, &bodies, m, &row[..n], verdicts);
-                    Judgement::Done(overall(&verdicts[..m]), m)
                 }
             }
         }
     }
 }
 
-// Checks an answer against a constraint file, any bytes both, and fills the entries in use of the two tables.
+// Checks an answer against a constraint file, any bytes both, and fills the entries in use of the tables.
 pub fn check(
     constraint: &[u8],
     answer: &[u8],
     values: &mut [u64],
     verdicts: &mut [u8],
+    results: &mut [u64],
 ) -> CheckReply
-    ensures { λ r. ⌜ record { reply = r; values = now (values .exit); verdicts = now (verdicts .exit) } ≡ checkOutcome (now (constraint .entry)) (now (answer .entry)) (now (values .entry)) (now (verdicts .entry)) ⌝ }
+    ensures { λ r. ⌜ record { reply = r; tables = tablesOf (now (values .exit)) (now (verdicts .exit)) (now (results .exit)) } ≡ checkOutcome (now (constraint .entry)) (now (answer .entry)) (tablesOf (now (values .entry)) (now (verdicts .entry)) (now (results .entry))) ⌝ }
 {
-    match check_lines(constraint, answer, values, verdicts) {
+    match check_lines(constraint, answer, values, verdicts, results) {
         Judgement::Done(o, _) => CheckReply::Checked(o),
         Judgement::Stopped(r) => CheckReply::Refused(r),
     }

@@ -42,7 +42,8 @@ pub fn report(constraint: &[u8], answer: &[u8]) -> Report
 {
     let mut values = [0u64; Edition::VARIABLES];
     let mut verdicts = [0u8; Edition::LINES];
-    match check_lines(constraint, answer, &mut values, &mut verdicts) {
+    let mut results = [0u64; Edition::LINES];
+    match check_lines(constraint, answer, &mut values, &mut verdicts, &mut results) {
         Judgement::Done(o, m) => Report::Tallied(o, tally(&verdicts[..m])),
         Judgement::Stopped(r) => Report::Refused(r),
     }

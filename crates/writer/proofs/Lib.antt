@@ -9,3 +9,4 @@ pub mod PrintedTokens
 pub mod TextSets
 pub mod WritingLaws
 pub mod RoundTripLaws
+pub mod SatisfiesLaws

@@ -2,10 +2,9 @@
 use answers::answer_length;
 use answers::put_answer;
 use edition::Edition;
-use judge::Overall;
+use judge::Judged;
 use judge::in_use::first_unfit;
-use judge::lines::judge_all;
-use judge::verdicts::overall;
+use judge::lines::judge_line;
 use printing::WriteReply;
 use printing::output::refused;
 use reader::reading::read;
@@ -41,13 +40,16 @@ fn satisfies<'a>(
     requires { ⌜ (m ≤ maxLines) × (length (now heads) ≡ tableHeads) × (length (now bodies) ≡ tableBodies) × ((k : ℕ) → k < m → Judgeable (now row) (now heads) (now bodies) k) ⌝ }
     ensures { λ r. ⌜ ((xs : List Variable) → AllHeadsFit xs (now (heads .entry)) (now (bodies .entry)) m → r ≡ isSatisfied (overallOf (verdictsOf xs (now (row .entry)) (linesIn (now (heads .entry)) (now (bodies .entry)) m)))) ⌝ }
 {
-    let mut verdicts = [0u8; Edition::LINES];
-    judge_all(heads, bodies, m, row, &mut verdicts);
-    match overall(&verdicts[..m]) {
-        Overall::Satisfied => true,
-        Overall::Violated(_) => false,
-        Overall::Disregarded(_) => false,
+    let mut k = 0;
+    while k < m {
+        let judged = judge_line(row, heads, bodies, k);
+        if judged.verdict == Judged::HOLDS {
+            k += 1;
+        } else {
+            return false;
+        }
     }
+    true
 }
 
 // Writes the answer with a row of values, if there is room for it.

@@ -27,6 +27,12 @@ array-borrow-prefix-verdicts c = search needs
 slice-aggregate-replay-run-4 : tie.Need-slice-aggregate-replay-run-4
 slice-aggregate-replay-run-4 c = front _ _ (search needs)
 
+array-borrow-prefix-results : tie.Need-array-borrow-prefix-results
+array-borrow-prefix-results c = search needs
+
+slice-aggregate-replay-run-5 : tie.Need-slice-aggregate-replay-run-5
+slice-aggregate-replay-run-5 c = front _ _ (search needs)
+
 replay-run-requires : tie.Need-replay-run-requires
 replay-run-requires c κs = search needs
 
@@ -45,5 +51,7 @@ run-spec =
     slice-aggregate-replay-run-3
     array-borrow-prefix-verdicts
     slice-aggregate-replay-run-4
+    array-borrow-prefix-results
+    slice-aggregate-replay-run-5
     replay-run-requires
     returns)

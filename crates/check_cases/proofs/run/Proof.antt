@@ -27,6 +27,12 @@ array-borrow-prefix-verdicts c = search needs
 slice-aggregate-answer-case-4 : tie.Need-slice-aggregate-answer-case-4
 slice-aggregate-answer-case-4 c = front _ _ (search needs)
 
+array-borrow-prefix-results : tie.Need-array-borrow-prefix-results
+array-borrow-prefix-results c = search needs
+
+slice-aggregate-answer-case-5 : tie.Need-slice-aggregate-answer-case-5
+slice-aggregate-answer-case-5 c = front _ _ (search needs)
+
 answer-case-requires : tie.Need-answer-case-requires
 answer-case-requires c κs = search needs
 
@@ -45,5 +51,7 @@ run-spec =
     slice-aggregate-answer-case-3
     array-borrow-prefix-verdicts
     slice-aggregate-answer-case-4
+    array-borrow-prefix-results
+    slice-aggregate-answer-case-5
     answer-case-requires
     returns)

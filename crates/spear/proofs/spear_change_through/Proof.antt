@@ -16,9 +16,12 @@ same-length c = search needs
 same-length-2 : tie.Need-same-length-2
 same-length-2 c = search needs
 
+same-length-3 : tie.Need-same-length-3
+same-length-3 c = search needs
+
 returns : tie.Need-returns
-returns c = rw (c .pack-change .ensures) (ap packedChange (c .before .before .before .before .before .change-through .ensures))
+returns c = rw (c .pack-change .ensures) (ap packedChange (c .before .before .before .before .before .before .before .change-through .ensures))
 
 pub spear-change-through-spec : {M : Type 1} → statement M
 spear-change-through-spec =
-    tie.close (tie.spec change-through-requires pack-change-requires same-length same-length-2 returns)
+    tie.close (tie.spec change-through-requires pack-change-requires same-length same-length-2 same-length-3 returns)

@@ -16,9 +16,12 @@ same-length c = search needs
 same-length-2 : tie.Need-same-length-2
 same-length-2 c = search needs
 
+same-length-3 : tie.Need-same-length-3
+same-length-3 c = search needs
+
 returns : tie.Need-returns
-returns c = rw (c .pack-check .ensures) (ap packedCheck (c .before .before .before .before .before .check .ensures))
+returns c = rw (c .pack-check .ensures) (ap packedCheck (c .before .before .before .before .before .before .before .check .ensures))
 
 pub spear-check-tables-spec : {M : Type 1} → statement M
 spear-check-tables-spec =
-    tie.close (tie.spec check-requires pack-check-requires same-length same-length-2 returns)
+    tie.close (tie.spec check-requires pack-check-requires same-length same-length-2 same-length-3 returns)

@@ -1,78 +1,62 @@
+-- `satisfies` meets its contract. The loop's invariant: the first k lines hold.
+use Prim.Native.Nat.{_-_, _≤_}
 use mathlib.Core.Path.{_≡_, sym, ap, _∙_}
 use mathlib.Core.List.{List}
-use Prim.Native.Nat.{ℕ}
 use native.Mathlib.Omega.{arith}
-use lib.ListN.{length, take}
-use lib.Seq.{take-at, length-take-le}
 use borrow.Author.Needs.{needs}
 use Rattle.constraint.specs.File.{Variable}
-use Rattle.store.specs.Tables.{linesIn, AllHeadsFit}
-use Rattle.store.proofs.LineTableLaws.{lines-length}
-use Rattle.judge.specs.Judge.{verdictsOf, overallOf}
-use Rattle.judge.proofs.VerdictLaws.{verdicts-length}
-use Rattle.writer.specs.Write.{isSatisfied}
+use Rattle.constraint.specs.Sound.{Each}
+use Rattle.store.specs.Tables.{tabulate, lineIn, linesIn, AllHeadsFit}
+use Rattle.judge.specs.Judge.{judge}
+use Rattle.judge.proofs.OverallLaws.{Holds}
+use Rattle.writer.proofs.SatisfiesLaws.{holds-more, all-hold, one-fails}
 use Rattle.writer.proofs.satisfies.Statement.{statement}
 use Rattle.writer.proofs.satisfies.Tie as tie
 
--- the verdicts on the lines
-abbrev fresh : tie.Start → List Variable → List ℕ
-fresh s xs = verdictsOf xs (s .args .row .now) (linesIn (s .args .heads .now) (s .args .bodies .now) (s .args .m))
+abbrev Inv-loop : tie.InvT-loop
+Inv-loop heads bodies m row k₀ k = (k ≤ m) × ((xs : List Variable) → AllHeadsFit xs heads bodies m → Each (Holds xs row) (linesIn heads bodies k))
 
-fresh-length : (s : tie.Start) (xs : List Variable) → length (fresh s xs) ≡ s .args .m
-fresh-length s xs = verdicts-length xs (s .args .row .now) (linesIn (s .args .heads .now) (s .args .bodies .now) (s .args .m)) ∙ lines-length (s .args .heads .now) (s .args .bodies .now) (s .args .m)
+abbrev μ-loop : tie.MeasureT-loop
+μ-loop heads bodies m row k₀ k = m - k
 
--- they stand at the front
-front : (c : tie.After-judge-all) → let s = c .before .before .before in (xs : List Variable) → AllHeadsFit xs (s .args .heads .now) (s .args .bodies .now) (s .args .m) → take (s .args .m) (c .judge-all .last .1 .1 .1 .1 .0) ≡ fresh s xs
-front c xs f = let s = c .before .before .before in ap (take (s .args .m)) (c .judge-all .ensures xs f) ∙ take-at (fresh s xs) _ (s .args .m) (fresh-length s xs)
+loop-holds : tie.Need-loop-holds Inv-loop μ-loop
+unfolding linesIn tabulate
+loop-holds c = (search needs, λ xs f. tt)
 
-slice-aggregate-judge-all : tie.Need-slice-aggregate-judge-all
-slice-aggregate-judge-all c = search needs
+judge-line-requires : tie.Need-judge-line-requires Inv-loop μ-loop
+judge-line-requires c κs = let s = c .before .before .before in (s .pre .1, s .pre .2, omega arith, s .pre .3 _ (c .loop-test .taken))
 
-judge-all-requires : tie.Need-judge-all-requires
-judge-all-requires c κs = search needs
+-- the verdict on the line
+verdict-of : (c : tie.After-judge-line Inv-loop μ-loop) → let s = c .before .before .before .before .args in (xs : List Variable) → AllHeadsFit xs (s .heads .now) (s .bodies .now) (s .m) → judge xs (s .row .now) (lineIn (s .heads .now) (s .bodies .now) (c .before .before .loop .k)) .verdict ≡ c .judge-line .result .verdict
+verdict-of c xs f = sym (ap (λ j. j .verdict) (c .judge-line .ensures xs (f _ (c .before .loop-test .taken))))
 
-array-share-prefix-verdicts : tie.Need-array-share-prefix-verdicts
-array-share-prefix-verdicts c = search needs
+add-k : tie.Need-add-k Inv-loop μ-loop
+add-k c = search needs
 
-slice-aggregate-overall : tie.Need-slice-aggregate-overall
-slice-aggregate-overall c =
-    let j = c .before .before in
-    let s = j .before .before .before in
-    sym (length-take-le (s .args .m) (j .judge-all .last .1 .1 .1 .1 .0) (omega (arith, j .judge-all .kept .1 .1 .1 .1 .0, s .pre .0)))
+loop-less : tie.Need-loop-less Inv-loop μ-loop
+loop-less c = search needs
 
-overall-requires : tie.Need-overall-requires
-overall-requires c κs = search needs
+loop-again : tie.Need-loop-again Inv-loop μ-loop
+loop-again c = (search needs, λ xs f. holds-more xs _ _ _ _ (c .before .before .before .before .loop .inv .1 xs f) (verdict-of (c .before .before) xs f ∙ c .if1 .taken))
 
-enum-told : tie.Need-enum-told
-enum-told c = search needs
+returns : tie.Need-returns Inv-loop μ-loop
+returns c = λ xs f. one-fails xs _ _ _ _ _ (c .before .before .before .loop-test .taken) (λ e. c .if1 .left (sym (verdict-of (c .before .before) xs f) ∙ e))
 
-enum-told-2 : tie.Need-enum-told-2
-enum-told-2 c = search needs
-
-enum-told-3 : tie.Need-enum-told-3
-enum-told-3 c = search needs
-
-returns : tie.Need-returns
-returns c = λ xs f. ap isSatisfied (sym (c .enum-told .given .1) ∙ c .before .before .overall .ensures ∙ ap overallOf (front (c .before .before .before .before .before) xs f))
-
-returns-2 : tie.Need-returns-2
-returns-2 c = λ xs f. ap isSatisfied (sym (c .enum-told2 .given .1) ∙ c .before .before .overall .ensures ∙ ap overallOf (front (c .before .before .before .before .before) xs f))
-
-returns-3 : tie.Need-returns-3
-returns-3 c = λ xs f. ap isSatisfied (sym (c .enum-told3 .given .1) ∙ c .before .before .overall .ensures ∙ ap overallOf (front (c .before .before .before .before .before) xs f))
+returns-2 : tie.Need-returns-2 Inv-loop μ-loop
+returns-2 c = λ xs f. let l = c .before .loop in
+    let e : l .k ≡ c .before .before .before .args .m = omega arith in
+    all-hold xs _ _ _ _ (rw e at (l .inv .1 xs f))
 
 pub satisfies-spec : {M : Type 1} → statement M
 satisfies-spec =
     tie.close
     (tie.spec
-    slice-aggregate-judge-all
-    judge-all-requires
-    array-share-prefix-verdicts
-    slice-aggregate-overall
-    overall-requires
-    enum-told
-    enum-told-2
-    enum-told-3
+    Inv-loop
+    μ-loop
+    loop-holds
+    judge-line-requires
+    add-k
+    loop-less
+    loop-again
     returns
-    returns-2
-    returns-3)
+    returns-2)

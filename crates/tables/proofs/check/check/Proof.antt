@@ -17,17 +17,23 @@ same-length c = search needs
 same-length-2 : tie.Need-same-length-2
 same-length-2 c = search needs
 
-returns : tie.Need-returns
-returns c = (rw (c .before .o .given .1) at (c .before .before .before .before .before .before .before .check-lines .ensures)) .0
-
 same-length-3 : tie.Need-same-length-3
 same-length-3 c = search needs
+
+returns : tie.Need-returns
+returns c = (rw (c .before .o .given .1) at (c .before .before .before .before .before .before .before .before .before .check-lines .ensures)) .0
 
 same-length-4 : tie.Need-same-length-4
 same-length-4 c = search needs
 
+same-length-5 : tie.Need-same-length-5
+same-length-5 c = search needs
+
+same-length-6 : tie.Need-same-length-6
+same-length-6 c = search needs
+
 returns-2 : tie.Need-returns-2
-returns-2 c = (rw (c .before .r .given .1) at (c .before .before .before .before .before .before .before .check-lines .ensures)) .0
+returns-2 c = (rw (c .before .r .given .1) at (c .before .before .before .before .before .before .before .before .before .check-lines .ensures)) .0
 
 pub check-spec : {M : Type 1} → statement M
 check-spec =
@@ -38,7 +44,9 @@ check-spec =
     enum-known-r
     same-length
     same-length-2
-    returns
     same-length-3
+    returns
     same-length-4
+    same-length-5
+    same-length-6
     returns-2)

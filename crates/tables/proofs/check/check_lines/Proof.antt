@@ -5,7 +5,7 @@ use native.Mathlib.Omega.{arith}
 use lib.ListN.{length, take}
 use lib.Seq.{length-take-le}
 use borrow.Author.Needs.{needs}
-use Rattle.refusal.specs.Result.{accepted}
+use Rattle.refusal.specs.Result.{accepted, gateResult}
 use Rattle.store.specs.declared.Progress.{Progress}
 use Rattle.constraint.specs.File.{File}
 use Rattle.constraint.specs.Read.{readFile}
@@ -14,14 +14,20 @@ use Rattle.store.specs.Tables.{Store, storeOf}
 use Rattle.store.specs.Progress.{storedFile, InTables, HeadsInUseFit}
 use Rattle.store.proofs.SearchLaws.{searchable-none}
 use Rattle.answer.specs.Read.{readAnswer}
+use Rattle.judge.specs.InUse.{Tables, tablesOf, roomOf, EnoughRoom, tablesRoom}
+use Rattle.judge.proofs.RoomLaws.{accepted-room}
 use Rattle.tables.specs.Check.{checked}
-use Rattle.tables.proofs.CheckLaws.{refused-constraint, refused-answer, values-short, verdicts-short, checked-row, variables-held, lines-held, answer-fits-lines, counts-lines, tables-filled}
+use Rattle.tables.proofs.CheckLaws.{refused-constraint, refused-answer, refused-room, checked-row, variables-held, lines-held, answer-fits-lines, counts-lines, tables-filled}
 use Rattle.tables.proofs.check.check_lines.Statement.{statement}
 use Rattle.tables.proofs.check.check_lines.Tie as tie
 
 -- the call, where a file was read
 abbrev start : tie.After-p → tie.Start
-start c = c .before .before .before .before .before .before .before .before .before .before
+start c = c .before .before .before .before .before .before .before .before .before .before .before
+
+-- the tables lent to it
+abbrev before : tie.After-p → Tables
+before c = let a = start c .args in tablesOf (a .values .now) (a .verdicts .now) (a .results .now)
 
 abbrev bytes : tie.After-p → List ℕ
 bytes c = start c .args .constraint .now
@@ -61,6 +67,21 @@ row-read c = rw (c .enum-told .given .1) at (c .before .before .read-answer .ens
 row-whole : (c : tie.After-enum-told) → progress (read c) .variables ≤ length (c .before .before .read-answer .last .1 .1 .1 .1 .0)
 row-whole c = let h = few (read c) .variables in let l = c .before .before .read-answer .ensures .1 in omega arith
 
+-- the tests of the room, and what they found where they passed
+tested : (c : tie.After-tables-room) → let p = read (c .before) in gateResult (c .tables-room .result) ≡ tablesRoom (file p) (roomOf (before p))
+tested c = let p = read (c .before) in c .tables-room .ensures (file p) (variables-held (bytes p) (tables p) (progress p)) (lines-held (bytes p) (tables p) (progress p))
+
+passed : (c : tie.After-enum-told2) → let p = read (c .before .before .before) in accepted tt ≡ tablesRoom (file p) (roomOf (before p))
+passed c = rw (c .enum-told2 .given .1) at (tested (c .before .before))
+
+room : (c : tie.After-enum-told2) → let p = read (c .before .before .before) in let a = start p .args in (progress p .variables ≤ length (a .values .now)) × (progress p .lines ≤ length (a .verdicts .now)) × (progress p .lines ≤ length (a .results .now))
+room c =
+    let p = read (c .before .before .before) in
+    let h = accepted-room (file p) (roomOf (before p)) (sym (passed c)) in
+    let n = variables-held (bytes p) (tables p) (progress p) in
+    let m = lines-held (bytes p) (tables p) (progress p) in
+    (rw n at (h .values), rw m at (h .verdicts), rw m at (h .results))
+
 read-requires : tie.Need-read-requires
 read-requires c κs = (search needs, searchable-none _)
 
@@ -79,43 +100,32 @@ enum-known-r-2 c = search needs
 enum-told : tie.Need-enum-told
 enum-told c = search needs
 
-too-short-requires : tie.Need-too-short-requires
-too-short-requires c κs = search needs
+tables-room-requires : tie.Need-tables-room-requires
+tables-room-requires c κs = search needs
 
-returns : tie.Need-returns
-returns c =
-    let r = c .before .before in
-    let p = read r in
-    let a = start p .args in
-    rw (c .too-short .ensures) (ap (checked (a .values .now) (a .verdicts .now)) (values-short (bytes p) (a .answer .now) (a .values .now) (a .verdicts .now) (file p) (file-read p) (row r) (row-read r) (progress p .variables) (variables-held (bytes p) (tables p) (progress p)) (c .before .if1 .taken)), tt)
+enum-known-r-3 : tie.Need-enum-known-r-3
+enum-known-r-3 c = search needs
 
-too-short-requires-2 : tie.Need-too-short-requires-2
-too-short-requires-2 c κs = search needs
-
-returns-2 : tie.Need-returns-2
-returns-2 c =
-    let r = c .before .before .before in
-    let p = read r in
-    let a = start p .args in
-    rw (c .too-short2 .ensures) (ap (checked (a .values .now) (a .verdicts .now)) (verdicts-short (bytes p) (a .answer .now) (a .values .now) (a .verdicts .now) (file p) (file-read p) (row r) (row-read r) (progress p .variables) (variables-held (bytes p) (tables p) (progress p)) (c .before .before .if1 .left) (progress p .lines) (lines-held (bytes p) (tables p) (progress p)) (c .before .if2 .taken)), tt)
+enum-told-2 : tie.Need-enum-told-2
+enum-told-2 c = search needs
 
 store-row-requires : tie.Need-store-row-requires
-store-row-requires c κs = (few (read (c .before .before .before .before)) .variables, c .before .before .before .before .before .before .read-answer .ensures .1, c .before .before .before .if1 .left)
+store-row-requires c κs = (few (c .before .before .before .before .before .before .before .before .before .before .before) .variables, c .before .before .before .before .before .before .before .read-answer .ensures .1, room (c .before .before) .0)
 
 array-share-prefix-row : tie.Need-array-share-prefix-row
-array-share-prefix-row c = row-whole (c .before .before .before .before .before .before .before .before .before)
+array-share-prefix-row c = row-whole (c .before .before .before .before .before .before .before .before .before .before)
 
 slice-aggregate-judge-all : tie.Need-slice-aggregate-judge-all
-slice-aggregate-judge-all c = sym (length-take-le _ _ (row-whole (c .before .before .before .before .before .before .before .before .before .before)))
+slice-aggregate-judge-all c = sym (length-take-le _ _ (row-whole (c .before .before .before .before .before .before .before .before .before .before .before)))
 
 judge-all-requires : tie.Need-judge-all-requires
-judge-all-requires c κs =
-    let r = c .before .before .before .before .before .before .before .before .before .before .before in
+judge-all-requires c κs = let r = c .before .before .before .before .before .before .before .before .before .before .before .before .before in
     let p = read r in
-    (few p .lines, p .before .before .read .ensures .1 .heads, p .before .before .read .ensures .1 .bodies, c .before .before .before .before .before .before .before .before .before .if2 .left, answer-fits-lines (bytes p) (tables p) (progress p) (file-read p) (heads-fit p) (start p .args .answer .now) (row r) (row-read r))
+    let h = room (c .before .before .before .before .before .before .before .before .before .before) in
+    (few p .lines, p .before .before .read .ensures .1 .heads, p .before .before .read .ensures .1 .bodies, h .1, h .2, answer-fits-lines (bytes p) (tables p) (progress p) (file-read p) (heads-fit p) (start p .args .answer .now) (row r) (row-read r))
 
 slice-reshare-prefix-overall : tie.Need-slice-reshare-prefix-overall
-slice-reshare-prefix-overall c = search needs
+slice-reshare-prefix-overall c = omega (arith, room (c .before .before .before .before .before .before .before .before .before .before .before .before .before .before .before) .1, c .before .before .before .before .judge-all .kept)
 
 slice-aggregate-overall : tie.Need-slice-aggregate-overall
 slice-aggregate-overall c = sym (length-take-le _ _ (slice-reshare-prefix-overall (c .before)))
@@ -123,16 +133,18 @@ slice-aggregate-overall c = sym (length-take-le _ _ (slice-reshare-prefix-overal
 overall-requires : tie.Need-overall-requires
 overall-requires c κs = search needs
 
-returns-3 : tie.Need-returns-3
-returns-3 c =
-    let a = c .before .before .before .before .before .before .before .before .before .before .before .args in
-    (ap (checked (a .values .now) (a .verdicts .now)) (refused-constraint (a .constraint .now) (a .answer .now) (a .values .now) (a .verdicts .now) (c .before .r .given .0 .0) (rw (c .before .r .given .1) at (c .before .before .before .read .ensures .0))), tt)
+returns : tie.Need-returns
+returns c = let a = c .before .before .before .before .before .before .before .before .before .before .before .before .args in
+    (ap (checked (tablesOf (a .values .now) (a .verdicts .now) (a .results .now))) (refused-constraint (a .constraint .now) (a .answer .now) _ (c .before .r .given .0 .0) (rw (c .before .r .given .1) at (c .before .before .before .read .ensures .0))), tt)
 
-returns-4 : tie.Need-returns-4
-returns-4 c =
-    let p = c .before .before .before .before .before .before .before in
-    let a = start p .args in
-    (ap (checked (a .values .now) (a .verdicts .now)) (refused-answer (bytes p) (a .answer .now) (a .values .now) (a .verdicts .now) (file p) (file-read p) (c .before .r2 .given .0 .0) (rw (c .before .r2 .given .1) at (c .before .before .before .read-answer .ensures .0))), tt)
+returns-2 : tie.Need-returns-2
+returns-2 c = let p = c .before .before .before .before .before .before .before in
+    (ap (checked (before p)) (refused-answer (bytes p) (start p .args .answer .now) _ (file p) (file-read p) (c .before .r2 .given .0 .0) (rw (c .before .r2 .given .1) at (c .before .before .before .read-answer .ensures .0))), tt)
+
+returns-3 : tie.Need-returns-3
+returns-3 c = let r = c .before .before .before .before in
+    let p = read r in
+    (ap (checked (before p)) (refused-room (bytes p) (start p .args .answer .now) _ (file p) (file-read p) (row r) (row-read r) (c .before .r3 .given .0 .0) (rw (c .before .r3 .given .1) at (tested (c .before .before .before)))), tt)
 
 same-length : tie.Need-same-length
 same-length c = search needs
@@ -140,14 +152,14 @@ same-length c = search needs
 same-length-2 : tie.Need-same-length-2
 same-length-2 c = search needs
 
-returns-5 : tie.Need-returns-5
-returns-5 c =
-    let r = c .before .before .before .before .before .before .before .before .before .before .before .before .before .before .before .before in
+same-length-3 : tie.Need-same-length-3
+same-length-3 c = search needs
+
+returns-4 : tie.Need-returns-4
+returns-4 c = let r = c .before .before .before .before .before .before .before .before .before .before .before .before .before .before .before .before .before .before .before .before in
     let p = read r in
-    let a = start p .args in
-    let n = variables-held (bytes p) (tables p) (progress p) in
-    let m = lines-held (bytes p) (tables p) (progress p) in
-    (rw (c .overall .ensures) (tables-filled (a .values .now) (a .verdicts .now) (file p) (row r) _ _ (progress p .variables) (progress p .lines) n m (c .before .before .before .before .before .before .before .before .before .before .before .store-row .ensures) (c .before .before .before .before .judge-all .ensures _ (heads-fit p)) ∙ ap (checked (a .values .now) (a .verdicts .now)) (checked-row (bytes p) (a .answer .now) (a .values .now) (a .verdicts .now) (file p) (file-read p) (row r) (row-read r) (progress p .variables) n (c .before .before .before .before .before .before .before .before .before .before .before .before .before .before .before .if1 .left) (progress p .lines) m (c .before .before .before .before .before .before .before .before .before .before .before .before .before .before .if2 .left))), counts-lines (bytes p) (tables p) (progress p) (file-read p))
+    let judged = c .before .before .before .before .before .before .judge-all .ensures _ (heads-fit p) in
+    (rw (c .overall .ensures) (tables-filled (before p) (file p) (row r) (progress p .variables) (progress p .lines) (variables-held (bytes p) (tables p) (progress p)) (lines-held (bytes p) (tables p) (progress p)) _ _ _ (c .before .before .before .before .before .before .before .before .before .before .before .before .before .before .store-row .ensures) (judged .0) (judged .1) ∙ ap (checked (before p)) (checked-row (bytes p) (start p .args .answer .now) _ (file p) (file-read p) (row r) (row-read r) (passed (c .before .before .before .before .before .before .before .before .before .before .before .before .before .before .before .before .before)))), counts-lines (bytes p) (tables p) (progress p) (file-read p))
 
 pub check-lines-spec : {M : Type 1} → statement M
 check-lines-spec =
@@ -159,10 +171,9 @@ check-lines-spec =
     read-answer-requires
     enum-known-r-2
     enum-told
-    too-short-requires
-    returns
-    too-short-requires-2
-    returns-2
+    tables-room-requires
+    enum-known-r-3
+    enum-told-2
     store-row-requires
     array-share-prefix-row
     slice-aggregate-judge-all
@@ -170,8 +181,10 @@ check-lines-spec =
     slice-reshare-prefix-overall
     slice-aggregate-overall
     overall-requires
+    returns
+    returns-2
     returns-3
-    returns-4
     same-length
     same-length-2
-    returns-5)
+    same-length-3
+    returns-4)
