@@ -10,7 +10,7 @@
  * (values, verdicts, results, output, the tables of an index that is built)
  * must not overlap any other range of the same call: what happens then is
  * outside what is proved. The calls keep no state, so threads may make them at
- * the same time. Each needs some 50 KB of stack, spear_clean some 110 KB.
+ * the same time. Each needs some 60 KB of stack, spear_clean some 110 KB.
  */
 #ifndef SPEAR_H
 #define SPEAR_H

@@ -1,9 +1,8 @@
 -- What the lines of an accepted file come to under values that fit. Assumes nothing.
-use Prim.Native.Nat.{ℕ, _<_, _^_}
+use Prim.Native.Nat.{ℕ}
 use mathlib.Core.Path.{_≡_, refl, sym, _∙_}
 use mathlib.Core.Bool.{Bool, true, false}
 use mathlib.Core.List.{List}
-use mathlib.Core.Option.{Option, none, some}
 use lib.Pow.{pow-pos}
 use Rattle.refusal.proofs.ResultLaws.{never}
 use Rattle.arithmetic.specs.Claims.{zeroDivisor, HasResult}
@@ -12,7 +11,7 @@ use Rattle.constraint.specs.declared.Line.{Line}
 use Rattle.constraint.specs.File.{Variable, operandWord, target}
 use Rattle.constraint.proofs.EachLaws.{each-map}
 use Rattle.constraint.proofs.SoundLaws.{accepted-is-sound}
-use Rattle.judge.specs.Judge.{resultOf, judged, judge}
+use Rattle.judge.specs.Judge.{resultOf, judge}
 use Rattle.judge.specs.Claims.{ResultThere, ResultsAreThere}
 use Rattle.judge.specs.Fitting.{Fitting}
 use Rattle.judge.proofs.FitLaws.{fits-fit}

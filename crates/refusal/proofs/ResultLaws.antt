@@ -88,11 +88,6 @@ pub none-accepted : (o : Option ℕ) (r : ℕ → Refusal) → ensureNone o r �
 none-accepted none r e = refl
 none-accepted (some i) r e = never (cc e)
 
--- a step, and then nothing
-pub then-done : (r : Result (Unit {0})) → (r >> accepted tt) ≡ r
-then-done (accepted tt) = refl
-then-done (refused r) = refl
-
 pub given-accepted : {A : Type 0} (o : Option A) (r : Refusal) (a : A) → given o r ≡ accepted a → o ≡ some a
 given-accepted (some b) r a e = let z : b ≡ a = cc e in rw z
 given-accepted none r a e = never (cc e)

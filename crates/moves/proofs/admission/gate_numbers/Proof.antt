@@ -16,7 +16,7 @@ bar-requires : tie.Need-bar-requires
 bar-requires c κs = search needs
 
 returns : tie.Need-returns
-returns c = λ file ls e. rw (c .bar .ensures) (variable-missing _ _ _ (file-sized file _ _ ls _ e) _ _ _ _ (c .before .if1 .taken))
+returns c file ls e = rw (c .bar .ensures) (variable-missing _ _ _ (file-sized file _ _ ls _ e) _ _ _ _ (c .before .if1 .taken))
 
 width-of-requires : tie.Need-width-of-requires
 width-of-requires c κs = search needs
@@ -28,7 +28,7 @@ bar-requires-2 : tie.Need-bar-requires-2
 bar-requires-2 c κs = search needs
 
 returns-2 : tie.Need-returns-2
-returns-2 c = λ file ls e. rw (c .bar2 .ensures) (value-too-large _ _ _ (file-sized file _ _ ls _ e) _ _ _ _ (c .before .before .before .before .if1 .left) _ (sym (c .before .before .before .width-of .ensures file)) (sym (c .before .before .fits2 .ensures) ∙ not-true _ (c .before .if2 .taken)))
+returns-2 c file ls e = rw (c .bar2 .ensures) (value-too-large _ _ _ (file-sized file _ _ ls _ e) _ _ _ _ (c .before .before .before .before .if1 .left) _ (sym (c .before .before .before .width-of .ensures file)) (sym (c .before .before .fits2 .ensures) ∙ not-true _ (c .before .if2 .taken)))
 
 first-unfit-requires : tie.Need-first-unfit-requires
 first-unfit-requires c κs = search needs
@@ -43,7 +43,9 @@ enum-told : tie.Need-enum-told
 enum-told c = search needs
 
 slice-aggregate-first-above : tie.Need-slice-aggregate-first-above
-slice-aggregate-first-above c = let s = c .before .before .before .before .before .before .before .before .before .before in sym (length-take-le _ (s .args .verdicts .now) (s .pre .3))
+slice-aggregate-first-above c =
+    let s = c .before .before .before .before .before .before .before .before .before .before in
+    sym (length-take-le _ (s .args .verdicts .now) (s .pre .3))
 
 first-above-requires : tie.Need-first-above-requires
 first-above-requires c κs = search needs
@@ -58,14 +60,14 @@ enum-told-2 : tie.Need-enum-told-2
 enum-told-2 c = search needs
 
 returns-3 : tie.Need-returns-3
-returns-3 c = λ file ls e. rw (c .bar3 .ensures) (values-unfit _ _ _ (file-sized file _ _ ls _ e) _ _ _ _ (c .before .before .before .before .before .before .before .before .if1 .left) _ (sym (c .before .before .before .before .before .before .before .width-of .ensures file)) (fitting (c .before .before .before .before .before)) _ (rw (c .before .before .k .given .1) at (c .before .before .before .before .first-unfit .ensures file)))
+returns-3 c file ls e = rw (c .bar3 .ensures) (values-unfit _ _ _ (file-sized file _ _ ls _ e) _ _ _ _ (c .before .before .before .before .before .before .before .before .if1 .left) _ (sym (c .before .before .before .before .before .before .before .width-of .ensures file)) (fitting (c .before .before .before .before .before)) _ (rw (c .before .before .k .given .1) at (c .before .before .before .before .first-unfit .ensures file)))
 
 returns-4 : tie.Need-returns-4
-returns-4 c = λ file ls e. rw (c .bar4 .ensures)
+returns-4 c file ls e = rw (c .bar4 .ensures)
     (verdicts-unfit _ _ _ (file-sized file _ _ ls _ e) _ _ _ _ (c .before .before .before .before .before .before .before .before .before .before .before .before .if1 .left) _ (sym (c .before .before .before .before .before .before .before .before .before .before .before .width-of .ensures file)) (fitting (c .before .before .before .before .before .before .before .before .before)) (rw (c .before .before .before .before .before .before .enum-told .given .1) at (c .before .before .before .before .before .before .before .before .first-unfit .ensures file)) _ (rw (c .before .before .k2 .given .1) at (c .before .before .before .before .first-above .ensures)))
 
 returns-5 : tie.Need-returns-5
-returns-5 c = λ file ls e. numbers-pass _ _ _ (file-sized file _ _ ls _ e) _ _ _ _ (c .before .before .before .before .before .before .before .before .before .before .if1 .left) _ (sym (c .before .before .before .before .before .before .before .before .before .width-of .ensures file)) (fitting (c .before .before .before .before .before .before .before)) (rw (c .before .before .before .before .enum-told .given .1) at (c .before .before .before .before .before .before .first-unfit .ensures file)) (rw (c .enum-told2 .given .1) at (c .before .before .first-above .ensures))
+returns-5 c file ls e = numbers-pass _ _ _ (file-sized file _ _ ls _ e) _ _ _ _ (c .before .before .before .before .before .before .before .before .before .before .if1 .left) _ (sym (c .before .before .before .before .before .before .before .before .before .width-of .ensures file)) (fitting (c .before .before .before .before .before .before .before)) (rw (c .before .before .before .before .enum-told .given .1) at (c .before .before .before .before .before .before .first-unfit .ensures file)) (rw (c .enum-told2 .given .1) at (c .before .before .first-above .ensures))
 
 pub gate-numbers-spec : {M : Type 1} → statement M
 gate-numbers-spec =

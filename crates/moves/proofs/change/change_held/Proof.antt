@@ -20,7 +20,8 @@ use Rattle.moves.proofs.change.change_held.Tie as tie
 
 -- the file in the tables, if these are its bytes
 abbrev held : tie.After-gate → List ℕ → File
-held c file = let s = c .before .before .before .before .before .before .before .before .before .args in fileOf (variablesIn file (s .variables .now) (s .n)) (linesIn (s .heads .now) (s .bodies .now) (s .m))
+held c file =
+    let s = c .before .before .before .before .before .before .before .before .before .args in fileOf (variablesIn file (s .variables .now) (s .n)) (linesIn (s .heads .now) (s .bodies .now) (s .m))
 
 sized : (c : tie.After-gate) (file : List ℕ) → let s = c .before .before .before .before .before .before .before .before .before .args in Sized (held c file) (s .n) (s .m)
 sized c file = file-sized file _ _ _ _ (lines-length _ _ _)
@@ -57,13 +58,18 @@ slice-write-values : tie.Need-slice-write-values
 slice-write-values c = omega (arith, within (c .before))
 
 slice-reshare-prefix-row : tie.Need-slice-reshare-prefix-row
-slice-reshare-prefix-row c = let s = c .before .before .before .before .before .before .before .before .before .before .before .before .args in omega (arith, within (c .before), length-set (s .values .now) (s .i) (s .v))
+slice-reshare-prefix-row c =
+    let s = c .before .before .before .before .before .before .before .before .before .before .before .before .args in
+    omega (arith, within (c .before), length-set (s .values .now) (s .i) (s .v))
 
 slice-aggregate-row : tie.Need-slice-aggregate-row
-slice-aggregate-row c = let s = c .before .before .before .before .before .before .before .before .before .before .before .before .before .args in sym (length-take-le (s .n) (set (s .values .now) (s .i) (s .v)) (omega (arith, within (c .before .before), length-set (s .values .now) (s .i) (s .v))))
+slice-aggregate-row c =
+    let s = c .before .before .before .before .before .before .before .before .before .before .before .before .before .args in
+    sym (length-take-le (s .n) (set (s .values .now) (s .i) (s .v)) (omega (arith, within (c .before .before), length-set (s .values .now) (s .i) (s .v))))
 
 renew-concerned-requires : tie.Need-renew-concerned-requires
-renew-concerned-requires c κs = let t = c .before .before .before .before in
+renew-concerned-requires c κs =
+    let t = c .before .before .before .before in
     let s = c .before .before .before .before .before .before .before .before .before .before .before .before .before .before .before in
     let h = within t in
     (s .pre .1, s .pre .2, s .pre .3, h .2, h .3, λ e. list-fitting _ _ _ _ _ _ (lines-length _ _ _) (rw e at (passed t [])), s .pre .4 _ (λ file. stored-fits _ _ _ _ _ (passed t file) _ _ (sized (t .before .before) file)))
@@ -72,7 +78,9 @@ slice-reshare-prefix-overall : tie.Need-slice-reshare-prefix-overall
 slice-reshare-prefix-overall c = omega (arith, within (c .before .before .before .before .before .before .before .before .before), c .before .before .before .before .renew-concerned .kept .1 .1 .1 .1 .0)
 
 slice-aggregate-overall : tie.Need-slice-aggregate-overall
-slice-aggregate-overall c = let r = c .before .before .before .before .before .renew-concerned in sym (length-take-le _ (r .last .1 .1 .1 .1 .0) (omega (arith, within (c .before .before .before .before .before .before .before .before .before .before), r .kept .1 .1 .1 .1 .0)))
+slice-aggregate-overall c =
+    let r = c .before .before .before .before .before .renew-concerned in
+    sym (length-take-le _ (r .last .1 .1 .1 .1 .0) (omega (arith, within (c .before .before .before .before .before .before .before .before .before .before), r .kept .1 .1 .1 .1 .0)))
 
 overall-requires : tie.Need-overall-requires
 overall-requires c κs = search needs
@@ -90,7 +98,7 @@ same-length-3 : tie.Need-same-length-3
 same-length-3 c = search needs
 
 returns : tie.Need-returns
-returns c = λ file f. change-refused _ _ _ _ (rw (c .before .r .given .1) at (tested (c .before .before .before) file))
+returns c file f = change-refused _ _ _ _ (rw (c .before .r .given .1) at (tested (c .before .before .before) file))
 
 same-length-4 : tie.Need-same-length-4
 same-length-4 c = search needs
@@ -102,7 +110,8 @@ same-length-6 : tie.Need-same-length-6
 same-length-6 c = search needs
 
 returns-2 : tie.Need-returns-2
-returns-2 c = λ file f. let d = c .before .before .before .before .before .before .before in
+returns-2 c file f =
+    let d = c .before .before .before .before .before .before .before in
     let t = c .before .before .before .before .before .before .before .before .before .before .before .before in
     rw (c .changed .ensures) (made-is _ _ _ _ _ (passed t file) _ _ (sized (t .before .before) file) _ _ _ _ (d .renew-concerned .ensures _ f) (c .before .overall .ensures))
     ∙ change-accepted _ _ _ (rw (t .enum-told .given .1) at (tested (t .before .before) file))

@@ -23,7 +23,8 @@ abbrev bytes : tie.After-p → List ℕ
 bytes c = c .before .before .before .before .before .before .before .before .before .before .before .before .args .constraint .now
 
 abbrev tables : tie.After-p → Store
-tables c = let l = c .before .before .read .last .1 in storeOf (l .0) (l .1 .0) (l .1 .1 .0)
+tables c =
+    let l = c .before .before .read .last .1 in storeOf (l .0) (l .1 .0) (l .1 .1 .0)
 
 abbrev progress : tie.After-p → Progress
 progress c = c .p .given .0 .0
@@ -47,7 +48,8 @@ enum-known-p : tie.Need-enum-known-p
 enum-known-p c = search needs
 
 change-held-requires : tie.Need-change-held-requires
-change-held-requires c κs = let t = c .before .before .before .before .before .before .before in
+change-held-requires c κs =
+    let t = c .before .before .before .before .before .before .before in
     let sized = t .before .before .read .ensures .1 in
     (in-tables t .variables, in-tables t .lines, sized .heads, sized .bodies, λ row fits. lines-fit (bytes t) (tables t) (progress t) row (file-read t) (heads-fit t) (fits (bytes t)))
 
@@ -64,7 +66,8 @@ same-length-3 : tie.Need-same-length-3
 same-length-3 c = search needs
 
 returns-2 : tie.Need-returns-2
-returns-2 c = let t = c .before .before .before .before .before .before .before .before .before .before .before .before .before .before in
+returns-2 c =
+    let t = c .before .before .before .before .before .before .before .before .before .before .before .before .before .before in
     let s = c .before .before .before .before .before .before .before .before .before .before .before .before .before .before .before .before .before .before .before .before .before .before .before .before .before .before .args in
     let f = storedFile (bytes t) (tables t) (progress t) in
     let lent = tablesOf (s .values .now) (s .verdicts .now) (s .results .now) in

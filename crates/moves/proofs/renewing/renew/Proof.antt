@@ -24,7 +24,9 @@ loop-holds : tie.Need-loop-holds Inv-loop μ-loop
 loop-holds c = (search needs, search needs, search needs, search needs, search needs, λ xs f. named-start xs _ _ _ _ _ _ (omega arith, omega arith))
 
 renew-named-requires : tie.Need-renew-named-requires Inv-loop μ-loop
-renew-named-requires c κs = let s = c .before .before .before .before .before .before .before in (omega arith, omega arith, s .pre .1, s .pre .2, omega arith, s .pre .5 _ (c .before .before .loop-test .taken))
+renew-named-requires c κs =
+    let s = c .before .before .before .before .before .before .before in
+    (omega arith, omega arith, s .pre .1, s .pre .2, omega arith, s .pre .5 _ (c .before .before .loop-test .taken))
 
 -- a line counts once
 most : (c : tie.After-renew-named Inv-loop μ-loop) → (c .renew-named .result .named ≤ 1) × (c .renew-named .result .altered ≤ 1)
@@ -48,7 +50,8 @@ loop-less : tie.Need-loop-less Inv-loop μ-loop
 loop-less c = search needs
 
 loop-again : tie.Need-loop-again Inv-loop μ-loop
-loop-again c = let a = c .before .before .before .before .before .before in
+loop-again c =
+    let a = c .before .before .before .before .before .before in
     let l = c .before .before .before .before .before .before .before .before .before .before .loop in
     let h = c .before .before .before .before .before .before .before .before .before .loop-test .taken in
     (search needs, search needs, search needs, omega (arith, most a), omega (arith, most a), λ xs f. named-next xs _ _ _ _ _ _ (omega arith, omega arith) _ _ _ _ (l .inv .5 xs f) h _ _ (a .renew-named .ensures xs (f _ h)))
@@ -60,7 +63,8 @@ same-length-2 : tie.Need-same-length-2 Inv-loop μ-loop
 same-length-2 c = c .before .loop .inv .2
 
 returns : tie.Need-returns Inv-loop μ-loop
-returns c = λ xs f. let l = c .before .loop in
+returns c xs f =
+    let l = c .before .loop in
     let e : l .k ≡ c .before .before .before .before .before .args .m = omega arith in
     named-end xs _ _ _ _ _ _ _ _ _ (rw e at (l .inv .5 xs f))
 

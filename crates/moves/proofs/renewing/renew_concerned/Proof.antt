@@ -45,7 +45,9 @@ part-renew-listed-end : tie.Need-part-renew-listed-end
 part-renew-listed-end c = omega (arith, fitting (c .before .before .before .before) .within)
 
 renew-listed-requires : tie.Need-renew-listed-requires
-renew-listed-requires c κs = let s = c .before .before .before .before .before .before .before .before .before .before .before in (s .pre .0, s .pre .1, s .pre .2, s .pre .3, s .pre .4, part-fits _ _ _ (fitting (c .before .before .before .before .before)), s .pre .6)
+renew-listed-requires c κs =
+    let s = c .before .before .before .before .before .before .before .before .before .before .before in
+    (s .pre .0, s .pre .1, s .pre .2, s .pre .3, s .pre .4, part-fits _ _ _ (fitting (c .before .before .before .before .before)), s .pre .6)
 
 same-length : tie.Need-same-length
 same-length c = search needs
@@ -54,7 +56,9 @@ same-length-2 : tie.Need-same-length-2
 same-length-2 c = search needs
 
 returns : tie.Need-returns
-returns c = λ xs f. let t = c .before .before .before .before .before .before .before .before .before .before in rw (t .if1 .taken, ← part-listed _ _ _ (fitting t)) (c .before .before .before .before .renew-listed .ensures xs f)
+returns c xs f =
+    let t = c .before .before .before .before .before .before .before .before .before .before in
+    rw (t .if1 .taken, ← part-listed _ _ _ (fitting t)) (c .before .before .before .before .renew-listed .ensures xs f)
 
 renew-requires : tie.Need-renew-requires
 renew-requires c κs = search needs
@@ -66,7 +70,7 @@ same-length-4 : tie.Need-same-length-4
 same-length-4 c = search needs
 
 returns-2 : tie.Need-returns-2
-returns-2 c = λ xs f. rw (c .before .before .before .before .before .before .before .if1 .left) (c .before .before .before .before .renew .ensures xs f)
+returns-2 c xs f = rw (c .before .before .before .before .before .before .before .if1 .left) (c .before .before .before .before .renew .ensures xs f)
 
 pub renew-concerned-spec : {M : Type 1} → statement M
 renew-concerned-spec =

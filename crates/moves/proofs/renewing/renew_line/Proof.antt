@@ -27,7 +27,9 @@ same-length-2 : tie.Need-same-length-2
 same-length-2 c = search needs
 
 returns : tie.Need-returns
-returns c = λ xs f. let fresh = c .before .judge-line .ensures xs f in (rw fresh at (c .differ .ensures), rw fresh)
+returns c xs f =
+    let fresh = c .before .judge-line .ensures xs f in
+    (rw fresh at (c .differ .ensures), rw fresh)
 
 pub renew-line-spec : {M : Type 1} → statement M
 renew-line-spec =

@@ -13,7 +13,8 @@ use Rattle.moves.proofs.renewing.renew_listed.Statement.{statement}
 use Rattle.moves.proofs.renewing.renew_listed.Tie as tie
 
 abbrev Inv-loop : tie.InvT-loop
-Inv-loop heads bodies m row verdicts₀ results₀ list altered₀ k₀ verdicts results altered k = (k ≤ length list) × (length verdicts ≡ length verdicts₀) × (length results ≡ length results₀) × (altered ≤ k) × ((xs : List Variable) → AllHeadsFit xs heads bodies m → ListedTurn xs heads bodies m row (columnsOf verdicts₀ results₀) list (columnsOf verdicts results) altered k)
+Inv-loop heads bodies m row verdicts₀ results₀ list altered₀ k₀ verdicts results altered k =
+    (k ≤ length list) × (length verdicts ≡ length verdicts₀) × (length results ≡ length results₀) × (altered ≤ k) × ((xs : List Variable) → AllHeadsFit xs heads bodies m → ListedTurn xs heads bodies m row (columnsOf verdicts₀ results₀) list (columnsOf verdicts results) altered k)
 
 abbrev μ-loop : tie.MeasureT-loop
 μ-loop heads bodies m row verdicts₀ results₀ list altered₀ k₀ verdicts results altered k = length list - k
@@ -23,7 +24,8 @@ loop-holds c = (search needs, search needs, search needs, search needs, λ xs f.
 
 -- a number of the list is one of the lines
 place : (c : tie.In-loop Inv-loop μ-loop) → let s = c .before .before .before .before .before .before in (1 ≤ getD (s .args .list .now) (c .before .loop .k) 0) × (getD (s .args .list .now) (c .before .loop .k) 0 ≤ s .args .m)
-place c = let s = c .before .before .before .before .before .before in listed-place _ _ _ (s .pre .5) (c .loop-test .taken)
+place c =
+    let s = c .before .before .before .before .before .before in listed-place _ _ _ (s .pre .5) (c .loop-test .taken)
 
 mul-line : tie.Need-mul-line Inv-loop μ-loop
 mul-line c = search needs
@@ -38,7 +40,8 @@ sub-line : tie.Need-sub-line Inv-loop μ-loop
 sub-line c = omega (arith, place (c .before))
 
 renew-line-requires : tie.Need-renew-line-requires Inv-loop μ-loop
-renew-line-requires c κs = let s = c .before .before .before .before .before .before .before .before .before in
+renew-line-requires c κs =
+    let s = c .before .before .before .before .before .before .before .before .before in
     let p = place (c .before .before .before) in
     (omega (arith, p), omega (arith, p), s .pre .1, s .pre .2, omega (arith, p), s .pre .6 _ (omega (arith, p)))
 
@@ -61,7 +64,8 @@ loop-less : tie.Need-loop-less Inv-loop μ-loop
 loop-less c = search needs
 
 loop-again : tie.Need-loop-again Inv-loop μ-loop
-loop-again c = let a = c .before .before .before .before in
+loop-again c =
+    let a = c .before .before .before .before in
     let l = c .before .before .before .before .before .before .before .before in
     let s = c .before .before .before .before .before .before .before .before .before .before .before .before .before .before in
     (search needs, search needs, search needs, omega (arith, most a), λ xs f. let e = a .renew-line .ensures xs (f (getD (s .args .list .now) (l .before .loop .k) 0 - 1) (omega (arith, place l))) in listed-next xs _ _ _ _ _ _ (omega arith, omega arith) (s .pre .5) _ _ _ (l .before .loop .inv .4 xs f) (l .loop-test .taken) _ refl _ _ (e .0) (e .1))
@@ -73,7 +77,8 @@ same-length-2 : tie.Need-same-length-2 Inv-loop μ-loop
 same-length-2 c = c .before .loop .inv .2
 
 returns : tie.Need-returns Inv-loop μ-loop
-returns c = λ xs f. let l = c .before .loop in
+returns c xs f =
+    let l = c .before .loop in
     let s = c .before .before .before .before .before .before .args in
     let e : l .k ≡ length (s .list .now) = omega arith in
     listed-end xs _ _ _ _ _ (s .list .now) _ _ (rw e at (l .inv .4 xs f))

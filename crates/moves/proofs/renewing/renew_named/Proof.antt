@@ -8,7 +8,8 @@ use Rattle.moves.proofs.renewing.renew_named.Tie as tie
 
 -- whether the line names the variable
 abbrev named : tie.After-names → Bool
-named c = let s = c .before .before .before .before .args in names (s .i) (lineIn (s .heads .now) (s .bodies .now) (s .k))
+named c =
+    let s = c .before .before .before .before .args in names (s .i) (lineIn (s .heads .now) (s .bodies .now) (s .k))
 
 hit : (c : tie.Then1) → named (c .before) ≡ true
 hit c = sym (c .before .names .ensures) ∙ c .if1 .taken
@@ -29,12 +30,13 @@ same-length-2 : tie.Need-same-length-2
 same-length-2 c = search needs
 
 returns : tie.Need-returns
-returns c = λ xs f. let one = c .before .before .before .before .renew-line .ensures xs f in
+returns c xs f =
+    let one = c .before .before .before .before .renew-line .ensures xs f in
     let h = hit (c .before .before .before .before .before .before .before) in
     record { made = rw h (one .1); counted = rw h; differed = rw h (one .0) }
 
 returns-2 : tie.Need-returns-2
-returns-2 c = λ xs f. record { made = rw (miss c); counted = rw (miss c); differed = rw (miss c) }
+returns-2 c xs f = record { made = rw (miss c); counted = rw (miss c); differed = rw (miss c) }
 
 pub renew-named-spec : {M : Type 1} → statement M
 renew-named-spec =

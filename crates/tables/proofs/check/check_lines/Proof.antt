@@ -14,7 +14,7 @@ use Rattle.store.specs.Tables.{Store, storeOf}
 use Rattle.store.specs.Progress.{storedFile, InTables, HeadsInUseFit}
 use Rattle.store.proofs.SearchLaws.{searchable-none}
 use Rattle.answer.specs.Read.{readAnswer}
-use Rattle.judge.specs.InUse.{Tables, tablesOf, roomOf, EnoughRoom, tablesRoom}
+use Rattle.judge.specs.InUse.{Tables, tablesOf, roomOf, tablesRoom}
 use Rattle.judge.proofs.RoomLaws.{accepted-room}
 use Rattle.tables.specs.Check.{checked}
 use Rattle.tables.proofs.CheckLaws.{refused-constraint, refused-answer, refused-room, checked-row, variables-held, lines-held, answer-fits-lines, counts-lines, tables-filled}
@@ -27,7 +27,8 @@ start c = c .before .before .before .before .before .before .before .before .bef
 
 -- the tables lent to it
 abbrev before : tie.After-p → Tables
-before c = let a = start c .args in tablesOf (a .values .now) (a .verdicts .now) (a .results .now)
+before c =
+    let a = start c .args in tablesOf (a .values .now) (a .verdicts .now) (a .results .now)
 
 abbrev bytes : tie.After-p → List ℕ
 bytes c = start c .args .constraint .now
@@ -37,7 +38,8 @@ abbrev progress : tie.After-p → Progress
 progress c = c .p .given .0 .0
 
 abbrev tables : tie.After-p → Store
-tables c = let l = c .before .before .read .last .1 in storeOf (l .0) (l .1 .0) (l .1 .1 .0)
+tables c =
+    let l = c .before .before .read .last .1 in storeOf (l .0) (l .1 .0) (l .1 .1 .0)
 
 abbrev file : tie.After-p → File
 file c = storedFile (bytes c) (tables c) (progress c)
@@ -65,11 +67,15 @@ row-read : (c : tie.After-enum-told) → accepted (row c) ≡ readAnswer (file (
 row-read c = rw (c .enum-told .given .1) at (c .before .before .read-answer .ensures .0)
 
 row-whole : (c : tie.After-enum-told) → progress (read c) .variables ≤ length (c .before .before .read-answer .last .1 .1 .1 .1 .0)
-row-whole c = let h = few (read c) .variables in let l = c .before .before .read-answer .ensures .1 in omega arith
+row-whole c =
+    let h = few (read c) .variables in
+    let l = c .before .before .read-answer .ensures .1 in
+    omega arith
 
 -- the tests of the room, and what they found where they passed
 tested : (c : tie.After-tables-room) → let p = read (c .before) in gateResult (c .tables-room .result) ≡ tablesRoom (file p) (roomOf (before p))
-tested c = let p = read (c .before) in c .tables-room .ensures (file p) (variables-held (bytes p) (tables p) (progress p)) (lines-held (bytes p) (tables p) (progress p))
+tested c =
+    let p = read (c .before) in c .tables-room .ensures (file p) (variables-held (bytes p) (tables p) (progress p)) (lines-held (bytes p) (tables p) (progress p))
 
 passed : (c : tie.After-enum-told2) → let p = read (c .before .before .before) in accepted tt ≡ tablesRoom (file p) (roomOf (before p))
 passed c = rw (c .enum-told2 .given .1) at (tested (c .before .before))
@@ -119,7 +125,8 @@ slice-aggregate-judge-all : tie.Need-slice-aggregate-judge-all
 slice-aggregate-judge-all c = sym (length-take-le _ _ (row-whole (c .before .before .before .before .before .before .before .before .before .before .before)))
 
 judge-all-requires : tie.Need-judge-all-requires
-judge-all-requires c κs = let r = c .before .before .before .before .before .before .before .before .before .before .before .before .before in
+judge-all-requires c κs =
+    let r = c .before .before .before .before .before .before .before .before .before .before .before .before .before in
     let p = read r in
     let h = room (c .before .before .before .before .before .before .before .before .before .before) in
     (few p .lines, p .before .before .read .ensures .1 .heads, p .before .before .read .ensures .1 .bodies, h .1, h .2, answer-fits-lines (bytes p) (tables p) (progress p) (file-read p) (heads-fit p) (start p .args .answer .now) (row r) (row-read r))
@@ -134,15 +141,18 @@ overall-requires : tie.Need-overall-requires
 overall-requires c κs = search needs
 
 returns : tie.Need-returns
-returns c = let a = c .before .before .before .before .before .before .before .before .before .before .before .before .args in
+returns c =
+    let a = c .before .before .before .before .before .before .before .before .before .before .before .before .args in
     (ap (checked (tablesOf (a .values .now) (a .verdicts .now) (a .results .now))) (refused-constraint (a .constraint .now) (a .answer .now) _ (c .before .r .given .0 .0) (rw (c .before .r .given .1) at (c .before .before .before .read .ensures .0))), tt)
 
 returns-2 : tie.Need-returns-2
-returns-2 c = let p = c .before .before .before .before .before .before .before in
+returns-2 c =
+    let p = c .before .before .before .before .before .before .before in
     (ap (checked (before p)) (refused-answer (bytes p) (start p .args .answer .now) _ (file p) (file-read p) (c .before .r2 .given .0 .0) (rw (c .before .r2 .given .1) at (c .before .before .before .read-answer .ensures .0))), tt)
 
 returns-3 : tie.Need-returns-3
-returns-3 c = let r = c .before .before .before .before in
+returns-3 c =
+    let r = c .before .before .before .before in
     let p = read r in
     (ap (checked (before p)) (refused-room (bytes p) (start p .args .answer .now) _ (file p) (file-read p) (row r) (row-read r) (c .before .r3 .given .0 .0) (rw (c .before .r3 .given .1) at (tested (c .before .before .before)))), tt)
 
@@ -156,7 +166,8 @@ same-length-3 : tie.Need-same-length-3
 same-length-3 c = search needs
 
 returns-4 : tie.Need-returns-4
-returns-4 c = let r = c .before .before .before .before .before .before .before .before .before .before .before .before .before .before .before .before .before .before .before .before in
+returns-4 c =
+    let r = c .before .before .before .before .before .before .before .before .before .before .before .before .before .before .before .before .before .before .before .before in
     let p = read r in
     let judged = c .before .before .before .before .before .before .judge-all .ensures _ (heads-fit p) in
     (rw (c .overall .ensures) (tables-filled (before p) (file p) (row r) (progress p .variables) (progress p .lines) (variables-held (bytes p) (tables p) (progress p)) (lines-held (bytes p) (tables p) (progress p)) _ _ _ (c .before .before .before .before .before .before .before .before .before .before .before .before .before .before .store-row .ensures) (judged .0) (judged .1) ∙ ap (checked (before p)) (checked-row (bytes p) (start p .args .answer .now) _ (file p) (file-read p) (row r) (row-read r) (passed (c .before .before .before .before .before .before .before .before .before .before .before .before .before .before .before .before .before)))), counts-lines (bytes p) (tables p) (progress p) (file-read p))

@@ -47,7 +47,8 @@ returns : tie.Need-returns
 returns c = rw (c .tally .ensures) (tallied (c .before .before .before) .1)
 
 returns-2 : tie.Need-returns-2
-returns-2 c = let s = c .before .before .before .before .before .before .before .before .before .before .before .before in
+returns-2 c =
+    let s = c .before .before .before .before .before .before .before .before .before .before .before .before in
     report-refused (s .args .constraint .now) (s .args .answer .now) _ _ _ (c .before .r .given .0 .0) ((rw (c .before .r .given .1) at (c .before .before .before .before .before .before .check-lines .ensures)) .0)
 
 pub report-spec : {M : Type 1} → statement M
