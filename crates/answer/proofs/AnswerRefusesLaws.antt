@@ -8,96 +8,96 @@ use mathlib.Core.Option.{Option, none}
 use native.Mathlib.Omega.{arith}
 use lib.Dec.{ltb, leb}
 use lib.ListN.{length, get_or}
-use Rattle.edition.specs.Edition.{maxFileBytes, maxNameBytes}
+use Rattle.edition.specs.Edition.{max_file_bytes, max_name_bytes}
 use Rattle.refusal.specs.declared.Refusal.{Refusal}
 use Rattle.refusal.specs.declared.Subject.TheVariants.{Answer}
-use Rattle.refusal.specs.Lists.{firstFrom, isThere, isOneOf}
-use Rattle.refusal.proofs.RefusesLaws.{Refuses, refuses-accepted, refuses-refused, refuses-bind, refuses-then, refuses-ensure, refuses-value, refuses-given}
+use Rattle.refusal.specs.Lists.{first_from, is_there, is_one_of}
+use Rattle.refusal.proofs.RefusesLaws.{Refuses, refuses_accepted, refuses_refused, refuses_bind, refuses_then, refuses_ensure, refuses_value, refuses_given}
 use Rattle.text.specs.Lines.{TextLine, Token, arguments}
-use Rattle.text.specs.Spelling.{isName, isNumeral, decimal, maxDigits, numberBound, up_to, behind}
-use Rattle.constraint.specs.File.{Variable, width_at, variableNamed}
+use Rattle.text.specs.Spelling.{is_name, is_numeral, decimal, max_digits, number_bound, up_to, behind}
+use Rattle.constraint.specs.File.{Variable, width_at, variable_named}
 use Rattle.constraint.specs.Sound.{Each}
 use Rattle.answer.specs.declared.Solution.{Solution}
 use Rattle.answer.specs.declared.Solution.TheVariants.{Satisfiable, Otherwise, NoWord}
 use Rattle.answer.specs.declared.AnswerLine.{AnswerLine}
 use Rattle.answer.specs.declared.AnswerLine.TheVariants.{OfComment, OfSolution, OfValues, OfNoKind}
-use Rattle.answer.specs.Read.{Settings, noSettings, solutionOf, readWord, readSolution, setting_of, readSetting, readSettings, readValues, answerKind, readAnswerAs, readAnswerLine, allSet, readAnswer}
-use Rattle.answer.specs.Refusals.{answerNumbers}
-use Rattle.refusal.proofs.EndsLaws.{refuses-after}
-use Rattle.constraint.proofs.WithinLaws.{LineWithin, TokenWithin, FileRefusal, Readable, arguments-within, start-within, placed, next-within, no-more-within, text-ends}
+use Rattle.answer.specs.Read.{Settings, no_settings, solution_of, read_word, read_solution, setting_of, read_setting, read_settings, read_values, answer_kind, read_answer_as, read_answer_line, all_set, read_answer}
+use Rattle.answer.specs.Refusals.{answer_numbers}
+use Rattle.refusal.proofs.EndsLaws.{refuses_after}
+use Rattle.constraint.proofs.WithinLaws.{LineWithin, TokenWithin, FileRefusal, Readable, arguments_within, start_within, placed, next_within, no_more_within, text_ends}
 
 -- a refusal of the answer
 abbrev OfAnswer : List ℕ → Refusal → Type 0
-OfAnswer = FileRefusal Answer answerNumbers
+OfAnswer = FileRefusal Answer answer_numbers
 
-module _ {bytes : List ℕ} (c : Readable Answer answerNumbers bytes) where
+module _ {bytes : List ℕ} (c : Readable Answer answer_numbers bytes) where
   -- ---- the solution
-  word-refuses : (t : Token) (s : Solution) → TokenWithin bytes t → Refuses (OfAnswer bytes) (readWord t s)
-  unfolding readWord answerNumbers isOneOf firstFrom
-  word-refuses t Satisfiable h = refuses-accepted
-  word-refuses t Otherwise h = refuses-refused (placed c refl h)
-  word-refuses t NoWord h = refuses-refused (placed c refl h)
+  word_refuses : (t : Token) (s : Solution) → TokenWithin bytes t → Refuses (OfAnswer bytes) (read_word t s)
+  unfolding read_word answer_numbers is_one_of first_from
+  word_refuses t Satisfiable h = refuses_accepted
+  word_refuses t Otherwise h = refuses_refused (placed c refl h)
+  word_refuses t NoWord h = refuses_refused (placed c refl h)
 
-  solution-refuses : (s : Settings) (l : TextLine) → LineWithin bytes l → Refuses (OfAnswer bytes) (readSolution s l)
-  unfolding readSolution answerNumbers isOneOf firstFrom
-  solution-refuses s l h =
-      refuses-ensure (not s.solved) _ (placed c refl (start-within bytes l h)) (
-      refuses-after (next-within c l (arguments l) h (arguments-within bytes l h)) λ p k.
-      refuses-then (word-refuses p.0 (solutionOf p.0.bytes) k.0) (
-      no-more-within c p.1 k.1 refuses-accepted))
+  solution_refuses : (s : Settings) (l : TextLine) → LineWithin bytes l → Refuses (OfAnswer bytes) (read_solution s l)
+  unfolding read_solution answer_numbers is_one_of first_from
+  solution_refuses s l h =
+      refuses_ensure (not s.solved) _ (placed c refl (start_within bytes l h)) (
+      refuses_after (next_within c l (arguments l) h (arguments_within bytes l h)) λ p k.
+      refuses_then (word_refuses p.0 (solution_of p.0.bytes) k.0) (
+      no_more_within c p.1 k.1 refuses_accepted))
 
   -- ---- the values
-  setting-refuses : (xs : List Variable) (t : Token) → TokenWithin bytes t → Refuses (OfAnswer bytes) (setting_of xs t)
-  unfolding setting_of answerNumbers isOneOf firstFrom
-  setting-refuses xs t h =
+  setting_refuses : (xs : List Variable) (t : Token) → TokenWithin bytes t → Refuses (OfAnswer bytes) (setting_of xs t)
+  unfolding setting_of answer_numbers is_one_of first_from
+  setting_refuses xs t h =
       let name = up_to (code "=") t.bytes in
       let number = behind (code "=") t.bytes in
-      refuses-ensure (isName name && isNumeral maxDigits number) _ (placed c refl h) (
-      refuses-ensure (ltb (decimal number) numberBound) _ (placed c refl h) (
-      refuses-ensure (leb (length name) maxNameBytes) _ (placed c refl h) (
-      refuses-given (variableNamed name xs) _ (placed c refl h) λ i.
-      refuses-ensure (ltb (decimal number) (2 ^ width_at xs i)) _ (placed c refl h)
-      refuses-accepted)))
+      refuses_ensure (is_name name && is_numeral max_digits number) _ (placed c refl h) (
+      refuses_ensure (ltb (decimal number) number_bound) _ (placed c refl h) (
+      refuses_ensure (leb (length name) max_name_bytes) _ (placed c refl h) (
+      refuses_given (variable_named name xs) _ (placed c refl h) λ i.
+      refuses_ensure (ltb (decimal number) (2 ^ width_at xs i)) _ (placed c refl h)
+      refuses_accepted)))
 
-  one-refuses : (xs : List Variable) (vs : List (Option ℕ)) (t : Token) → TokenWithin bytes t → Refuses (OfAnswer bytes) (readSetting xs vs t)
-  unfolding readSetting answerNumbers isOneOf firstFrom
-  one-refuses xs vs t h =
-      refuses-bind (setting-refuses xs t h) λ p.
-      refuses-ensure (not (isThere (get_or vs p.0 none))) _ (placed c refl h)
-      refuses-accepted
+  one_refuses : (xs : List Variable) (vs : List (Option ℕ)) (t : Token) → TokenWithin bytes t → Refuses (OfAnswer bytes) (read_setting xs vs t)
+  unfolding read_setting answer_numbers is_one_of first_from
+  one_refuses xs vs t h =
+      refuses_bind (setting_refuses xs t h) λ p.
+      refuses_ensure (not (is_there (get_or vs p.0 none))) _ (placed c refl h)
+      refuses_accepted
 
-  settings-refuse : (xs : List Variable) (ts : List Token) (vs : List (Option ℕ)) → Each (TokenWithin bytes) ts → Refuses (OfAnswer bytes) (readSettings xs vs ts)
-  unfolding readSettings
-  settings-refuse xs [] vs hs = refuses-accepted
-  settings-refuse xs (t ∷ ts) vs hs = refuses-bind (one-refuses xs vs t hs.0) λ us. settings-refuse xs ts us hs.1
+  settings_refuse : (xs : List Variable) (ts : List Token) (vs : List (Option ℕ)) → Each (TokenWithin bytes) ts → Refuses (OfAnswer bytes) (read_settings xs vs ts)
+  unfolding read_settings
+  settings_refuse xs [] vs hs = refuses_accepted
+  settings_refuse xs (t ∷ ts) vs hs = refuses_bind (one_refuses xs vs t hs.0) λ us. settings_refuse xs ts us hs.1
 
-  values-refuse : (xs : List Variable) (s : Settings) (l : TextLine) → LineWithin bytes l → Refuses (OfAnswer bytes) (readValues xs s l)
-  unfolding readValues answerNumbers isOneOf firstFrom
-  values-refuse xs s l h =
-      refuses-ensure s.solved _ (placed c refl (start-within bytes l h)) (
-      refuses-bind (settings-refuse xs (arguments l) s.values (arguments-within bytes l h)) λ vs.
-      refuses-accepted)
+  values_refuse : (xs : List Variable) (s : Settings) (l : TextLine) → LineWithin bytes l → Refuses (OfAnswer bytes) (read_values xs s l)
+  unfolding read_values answer_numbers is_one_of first_from
+  values_refuse xs s l h =
+      refuses_ensure s.solved _ (placed c refl (start_within bytes l h)) (
+      refuses_bind (settings_refuse xs (arguments l) s.values (arguments_within bytes l h)) λ vs.
+      refuses_accepted)
 
   -- ---- the answer
-  as-refuses : (k : AnswerLine) (xs : List Variable) (s : Settings) (l : TextLine) → LineWithin bytes l → Refuses (OfAnswer bytes) (readAnswerAs k xs s l)
-  unfolding readAnswerAs answerNumbers isOneOf firstFrom
-  as-refuses OfComment xs s l h = refuses-accepted
-  as-refuses OfSolution xs s l h = solution-refuses s l h
-  as-refuses OfValues xs s l h = values-refuse xs s l h
-  as-refuses OfNoKind xs s l h = refuses-refused (placed c refl (start-within bytes l h))
+  as_refuses : (k : AnswerLine) (xs : List Variable) (s : Settings) (l : TextLine) → LineWithin bytes l → Refuses (OfAnswer bytes) (read_answer_as k xs s l)
+  unfolding read_answer_as answer_numbers is_one_of first_from
+  as_refuses OfComment xs s l h = refuses_accepted
+  as_refuses OfSolution xs s l h = solution_refuses s l h
+  as_refuses OfValues xs s l h = values_refuse xs s l h
+  as_refuses OfNoKind xs s l h = refuses_refused (placed c refl (start_within bytes l h))
 
-  line-refuses : (xs : List Variable) (s : Settings) (l : TextLine) → LineWithin bytes l → Refuses (OfAnswer bytes) (readAnswerLine xs s l)
-  unfolding readAnswerLine
-  line-refuses xs s l h = as-refuses (answerKind l.bytes) xs s l h
+  line_refuses : (xs : List Variable) (s : Settings) (l : TextLine) → LineWithin bytes l → Refuses (OfAnswer bytes) (read_answer_line xs s l)
+  unfolding read_answer_line
+  line_refuses xs s l h = as_refuses (answer_kind l.bytes) xs s l h
 
 -- the numbers of any file are of the list
-readable : (bytes : List ℕ) → length bytes ≤ maxFileBytes → Readable Answer answerNumbers bytes
-unfolding answerNumbers isOneOf firstFrom
+readable : (bytes : List ℕ) → length bytes ≤ max_file_bytes → Readable Answer answer_numbers bytes
+unfolding answer_numbers is_one_of first_from
 readable bytes h = record { short = h; byte = refl; count = refl }
 
-pub answer-refuses : (xs : List Variable) (bytes : List ℕ) → Refuses (FileRefusal Answer answerNumbers bytes) (readAnswer xs bytes)
-unfolding readAnswer answerNumbers isOneOf firstFrom
-answer-refuses xs bytes =
-    refuses-after (text-ends Answer answerNumbers bytes refl (readable bytes) (readAnswerLine xs) (λ c. line-refuses c xs) (noSettings xs)) λ s c.
-    refuses-ensure s.solved _ (placed c refl (omega arith)) (
-    refuses-value (allSet s.values) _ (placed c refl (omega arith)))
+pub answer_refuses : (xs : List Variable) (bytes : List ℕ) → Refuses (FileRefusal Answer answer_numbers bytes) (read_answer xs bytes)
+unfolding read_answer answer_numbers is_one_of first_from
+answer_refuses xs bytes =
+    refuses_after (text_ends Answer answer_numbers bytes refl (readable bytes) (read_answer_line xs) (λ c. line_refuses c xs) (no_settings xs)) λ s c.
+    refuses_ensure s.solved _ (placed c refl (omega arith)) (
+    refuses_value (all_set s.values) _ (placed c refl (omega arith)))

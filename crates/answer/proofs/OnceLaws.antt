@@ -8,58 +8,58 @@ use lib.ListN.{length, get_or, replicate, length-map, length-replicate, get_or-r
 use Rattle.edition.specs.declared.Edition.{Edition}
 use Rattle.refusal.specs.Result.{accepted}
 use Rattle.refusal.proofs.ResultLaws.{never}
-use Rattle.refusal.proofs.ListLaws.{getD-mapped}
+use Rattle.refusal.proofs.ListLaws.{get_or_mapped}
 use Rattle.text.specs.Lines.{Token}
 use Rattle.constraint.specs.File.{Variable, name_at}
 use Rattle.constraint.specs.Sound.{Each, SoundVariable, Distinct}
-use Rattle.answer.specs.Read.{readSettings, allSet}
+use Rattle.answer.specs.Read.{read_settings, all_set}
 use Rattle.answer.specs.Claims.{IsSetting}
-use Rattle.answer.proofs.SettingsListLaws.{valuesIn, settings-are, settings-accepted}
+use Rattle.answer.proofs.SettingsListLaws.{values_in, settings_are, settings_accepted}
 
 -- every token sets a variable, and every variable is set once, to its value in the row
 pub record SetsOnce (xs : List Variable) (row : List ℕ) (ts : List Token) : Type 0 where
   pub no_other : Each (IsSetting xs) ts
-  pub one-for-each : length row ≡ length xs
-  pub once : (i : ℕ) → i < length xs → valuesIn (name_at xs i) ts ≡ get_or row i 0 ∷ []
+  pub one_for_each : length row ≡ length xs
+  pub once : (i : ℕ) → i < length xs → values_in (name_at xs i) ts ≡ get_or row i 0 ∷ []
 
 -- all variables are set where the settings are those of a row
-pub all-set-is : (vs : List (Option ℕ)) (row : List ℕ) → allSet vs ≡ some row → vs ≡ map some row
-unfolding allSet
-all-set-is [] row e = let z : [] ≡ row = cc e in rw (← z)
-all-set-is (none ∷ vs) row e = never (cc e)
-all-set-is (some v ∷ vs) row e =
-    let p = (map-eq-some_iff (λ (r : List ℕ). v ∷ r) (allSet vs)).0 e in
-    rw (← p.2) (ap (λ (r : List (Option ℕ)). some v ∷ r) (all-set-is vs p.0 p.1))
+pub all_set_is : (vs : List (Option ℕ)) (row : List ℕ) → all_set vs ≡ some row → vs ≡ map some row
+unfolding all_set
+all_set_is [] row e = let z : [] ≡ row = cc e in rw (← z)
+all_set_is (none ∷ vs) row e = never (cc e)
+all_set_is (some v ∷ vs) row e =
+    let p = (map-eq-some_iff (λ (r : List ℕ). v ∷ r) (all_set vs)).0 e in
+    rw (← p.2) (ap (λ (r : List (Option ℕ)). some v ∷ r) (all_set_is vs p.0 p.1))
 
-pub all-set-row : (row : List ℕ) → allSet (map some row) ≡ some row
-unfolding allSet
-all-set-row [] = refl
-all-set-row (v ∷ row) = rw (all-set-row row)
+pub all_set_row : (row : List ℕ) → all_set (map some row) ≡ some row
+unfolding all_set
+all_set_row [] = refl
+all_set_row (v ∷ row) = rw (all_set_row row)
 
 -- the values of a variable: before all tokens, and those of a row
-no-values : (n i : ℕ) → i < n → Option-to_list {A = ℕ} (get_or (replicate n none) i none) ≡ []
+no_values : (n i : ℕ) → i < n → Option-to_list {A = ℕ} (get_or (replicate n none) i none) ≡ []
 unfolding Option-to_list
-no-values n i h = rw get_or-replicate
+no_values n i h = rw get_or-replicate
 
-row-values : (row : List ℕ) (i : ℕ) → i < length row → Option-to_list (get_or (map some row) i none) ≡ get_or row i 0 ∷ []
+row_values : (row : List ℕ) (i : ℕ) → i < length row → Option-to_list (get_or (map some row) i none) ≡ get_or row i 0 ∷ []
 unfolding Option-to_list
-row-values row i h = rw (getD-mapped some row i 0 none h)
+row_values row i h = rw (get_or_mapped some row i 0 none h)
 
 -- from no settings to those of a row
 module _ (e : Edition) (xs : List Variable) (sound : Each (SoundVariable e) xs) (distinct : Distinct xs) (row : List ℕ) (ts : List Token) where
-  pub once_is : readSettings xs (replicate (length xs) none) ts ≡ accepted (map some row) → SetsOnce xs row ts
+  pub once_is : read_settings xs (replicate (length xs) none) ts ≡ accepted (map some row) → SetsOnce xs row ts
   once_is q =
-      let h = settings-are e xs sound distinct ts (replicate (length xs) none) (map some row) (length-replicate (length xs) none) q in
+      let h = settings_are e xs sound distinct ts (replicate (length xs) none) (map some row) (length-replicate (length xs) none) q in
       let l : length row ≡ length xs = sym (length-map row some) ∙ h.long ∙ length-replicate (length xs) none in
       record {
         no_other = h.no_other;
-        one-for-each = l;
-        once = λ i b. sym (sym (row-values row i (omega arith)) ∙ h.values i b ∙ rw (no-values (length xs) i b));
+        one_for_each = l;
+        once = λ i b. sym (sym (row_values row i (omega arith)) ∙ h.values i b ∙ rw (no_values (length xs) i b));
       }
 
-  pub once-accepted : SetsOnce xs row ts → readSettings xs (replicate (length xs) none) ts ≡ accepted (map some row)
-  once-accepted h = settings-accepted e xs sound distinct ts (replicate (length xs) none) (map some row) (length-replicate (length xs) none) (record {
+  pub once_accepted : SetsOnce xs row ts → read_settings xs (replicate (length xs) none) ts ≡ accepted (map some row)
+  once_accepted h = settings_accepted e xs sound distinct ts (replicate (length xs) none) (map some row) (length-replicate (length xs) none) (record {
     no_other = h.no_other;
-    long = length-map row some ∙ h.one-for-each ∙ sym (length-replicate (length xs) none);
-    values = λ i b. row-values row i (omega (arith, h.one-for-each)) ∙ rw (no-values (length xs) i b) (sym (h.once i b));
+    long = length-map row some ∙ h.one_for_each ∙ sym (length-replicate (length xs) none);
+    values = λ i b. row_values row i (omega (arith, h.one_for_each)) ∙ rw (no_values (length xs) i b) (sym (h.once i b));
   })

@@ -6,35 +6,35 @@ use mathlib.Core.List.{List, [], ◌∷◌}
 use mathlib.Core.Option.{Option}
 use lib.ListN.{length, drop}
 use Rattle.refusal.specs.declared.Subject.TheVariants.{Answer}
-use Rattle.refusal.specs.Numbers.{misplacedLine, tokenCount, noSolutionWord, notSatisfiable}
+use Rattle.refusal.specs.Numbers.{misplaced_line, token_count, no_solution_word, not_satisfiable}
 use Rattle.refusal.specs.Result.{refused, refusal}
-use Rattle.text.specs.Lines.{Token, tokensFrom}
+use Rattle.text.specs.Lines.{Token, tokens_from}
 use Rattle.text.specs.Scan.{line_at}
-use Rattle.text.proofs.TokenLaws.{arguments-at, end-at}
+use Rattle.text.proofs.TokenLaws.{arguments_at, end_at}
 use Rattle.answer.specs.declared.Solution.TheVariants.{Satisfiable, Otherwise, NoWord}
-use Rattle.answer.specs.Read.{settingsOf, solutionOf, readWord, readSolution}
-use Rattle.answer.specs.Internal.{unlessSurplus}
+use Rattle.answer.specs.Read.{settings_of, solution_of, read_word, read_solution}
+use Rattle.answer.specs.Internal.{unless_surplus}
 
 module _ (solved : Bool) (vs : List (Option ℕ)) (line : List ℕ) (at next : ℕ) where
-  pub solution-misplaced : solved ≡ true → refused (refusal Answer misplacedLine at) ≡ readSolution (settingsOf solved vs) (line_at line at next)
-  unfolding readSolution
-  solution-misplaced e = rw e
+  pub solution_misplaced : solved ≡ true → refused (refusal Answer misplaced_line at) ≡ read_solution (settings_of solved vs) (line_at line at next)
+  unfolding read_solution
+  solution_misplaced e = rw e
 
   module _ (e : solved ≡ false) where
-    pub solution-missing : at ≤ length line → tokensFrom true (at + 1) (drop (at + 1) line) ≡ [] → refused (refusal Answer tokenCount (length line)) ≡ readSolution (settingsOf solved vs) (line_at line at next)
-    unfolding readSolution
-    solution-missing h ts = rw (e, arguments-at line at next, ts, end-at line at next h)
+    pub solution_missing : at ≤ length line → tokens_from true (at + 1) (drop (at + 1) line) ≡ [] → refused (refusal Answer token_count (length line)) ≡ read_solution (settings_of solved vs) (line_at line at next)
+    unfolding read_solution
+    solution_missing h ts = rw (e, arguments_at line at next, ts, end_at line at next h)
 
     -- by the word that the first token is
-    module _ {t : Token} {ts : List Token} (k : tokensFrom true (at + 1) (drop (at + 1) line) ≡ t ∷ ts) where
-      pub solution-satisfiable : Satisfiable ≡ solutionOf t.bytes → unlessSurplus ts (settingsOf true vs) ≡ readSolution (settingsOf solved vs) (line_at line at next)
-      unfolding readSolution readWord
-      solution-satisfiable w = rw (e, arguments-at line at next, k, ← w)
+    module _ {t : Token} {ts : List Token} (k : tokens_from true (at + 1) (drop (at + 1) line) ≡ t ∷ ts) where
+      pub solution_satisfiable : Satisfiable ≡ solution_of t.bytes → unless_surplus ts (settings_of true vs) ≡ read_solution (settings_of solved vs) (line_at line at next)
+      unfolding read_solution read_word
+      solution_satisfiable w = rw (e, arguments_at line at next, k, ← w)
 
-      pub solution-otherwise : Otherwise ≡ solutionOf t.bytes → refused (refusal Answer notSatisfiable t.start) ≡ readSolution (settingsOf solved vs) (line_at line at next)
-      unfolding readSolution readWord
-      solution-otherwise w = rw (e, arguments-at line at next, k, ← w)
+      pub solution_otherwise : Otherwise ≡ solution_of t.bytes → refused (refusal Answer not_satisfiable t.start) ≡ read_solution (settings_of solved vs) (line_at line at next)
+      unfolding read_solution read_word
+      solution_otherwise w = rw (e, arguments_at line at next, k, ← w)
 
-      pub solution-none : NoWord ≡ solutionOf t.bytes → refused (refusal Answer noSolutionWord t.start) ≡ readSolution (settingsOf solved vs) (line_at line at next)
-      unfolding readSolution readWord
-      solution-none w = rw (e, arguments-at line at next, k, ← w)
+      pub solution_none : NoWord ≡ solution_of t.bytes → refused (refusal Answer no_solution_word t.start) ≡ read_solution (settings_of solved vs) (line_at line at next)
+      unfolding read_solution read_word
+      solution_none w = rw (e, arguments_at line at next, k, ← w)

@@ -5,12 +5,12 @@ use mathlib.Core.Bool.{Bool, true, false, cond, ◌||◌}
 use mathlib.Core.List.{List, [], ◌∷◌, map, head-eq_of_cons-eq}
 use mathlib.Core.Option.{Option}
 use Rattle.refusal.specs.Result.{Result, accepted, ◌>>◌}
-use Rattle.refusal.proofs.ResultLaws.{never, Yields, yields-accepted, yields-refused}
+use Rattle.refusal.proofs.ResultLaws.{never, Yields, yields_accepted, yields_refused}
 use Rattle.text.specs.Bytes.{same}
 use Rattle.text.specs.Lines.{TextLine, Token, arguments}
 use Rattle.answer.specs.declared.Solution.TheVariants.{Satisfiable, Otherwise, NoWord}
 use Rattle.answer.specs.SolutionWords.{satisfiable, unsatisfiable, unknown}
-use Rattle.answer.specs.Read.{Settings, settingsOf, solutionOf, readWord, readSolution}
+use Rattle.answer.specs.Read.{Settings, settings_of, solution_of, read_word, read_solution}
 use Rattle.text.proofs.NameLaws.{same_true}
 
 -- the bytes of tokens
@@ -18,32 +18,32 @@ abbrev words : List Token → List (List ℕ)
 words = map (λ t. t.bytes)
 
 -- the solution word, then the next step
-yields-word : {B : Type 0} {Q : B → Type 0} (t : Token) {next : Result B} → (t.bytes ≡ satisfiable → Yields Q next) → Yields Q (readWord t (solutionOf t.bytes) >> next)
-unfolding readWord solutionOf
-yields-word {Q} t {next} n = go (same satisfiable t.bytes) refl (same unsatisfiable t.bytes || same unknown t.bytes)
+yields_word : {B : Type 0} {Q : B → Type 0} (t : Token) {next : Result B} → (t.bytes ≡ satisfiable → Yields Q next) → Yields Q (read_word t (solution_of t.bytes) >> next)
+unfolding read_word solution_of
+yields_word {Q} t {next} n = go (same satisfiable t.bytes) refl (same unsatisfiable t.bytes || same unknown t.bytes)
   where
-    go : (a : Bool) → same satisfiable t.bytes ≡ a → (b : Bool) → Yields Q (readWord t (cond a Satisfiable (cond b Otherwise NoWord)) >> next)
+    go : (a : Bool) → same satisfiable t.bytes ≡ a → (b : Bool) → Yields Q (read_word t (cond a Satisfiable (cond b Otherwise NoWord)) >> next)
     go true e b = n (sym (same_true satisfiable t.bytes e))
-    go false e true = yields-refused
-    go false e false = yields-refused
+    go false e true = yields_refused
+    go false e false = yields_refused
 
 module _ (vs : List (Option ℕ)) (l : TextLine) where
   -- what is accepted says so
-  solution-yields : (ts : List Token) → arguments l ≡ ts → Yields (λ u. (words ts ≡ satisfiable ∷ []) × (u ≡ settingsOf true vs)) (readSolution (settingsOf false vs) l)
-  unfolding readSolution
-  solution-yields [] e = rw e yields-refused
-  solution-yields (t ∷ []) e = rw e (yields-word t λ k. yields-accepted (rw k, refl))
-  solution-yields (t ∷ d ∷ ts) e = rw e (yields-word t λ k. yields-refused)
+  solution_yields : (ts : List Token) → arguments l ≡ ts → Yields (λ u. (words ts ≡ satisfiable ∷ []) × (u ≡ settings_of true vs)) (read_solution (settings_of false vs) l)
+  unfolding read_solution
+  solution_yields [] e = rw e yields_refused
+  solution_yields (t ∷ []) e = rw e (yields_word t λ k. yields_accepted (rw k, refl))
+  solution_yields (t ∷ d ∷ ts) e = rw e (yields_word t λ k. yields_refused)
 
-  pub solution-is : (u : Settings) → readSolution (settingsOf false vs) l ≡ accepted u → (words (arguments l) ≡ satisfiable ∷ []) × (u ≡ settingsOf true vs)
-  solution-is u = (solution-yields (arguments l) refl).holds u
+  pub solution_is : (u : Settings) → read_solution (settings_of false vs) l ≡ accepted u → (words (arguments l) ≡ satisfiable ∷ []) × (u ≡ settings_of true vs)
+  solution_is u = (solution_yields (arguments l) refl).holds u
 
   -- what says so is accepted
-  taken : (ts : List Token) → arguments l ≡ ts → words ts ≡ satisfiable ∷ [] → readSolution (settingsOf false vs) l ≡ accepted (settingsOf true vs)
-  unfolding readSolution readWord solutionOf same
+  taken : (ts : List Token) → arguments l ≡ ts → words ts ≡ satisfiable ∷ [] → read_solution (settings_of false vs) l ≡ accepted (settings_of true vs)
+  unfolding read_solution read_word solution_of same
   taken [] e q = never (cc q)
   taken (t ∷ []) e q = rw (e, head-eq_of_cons-eq q)
   taken (t ∷ d ∷ ts) e q = never (cc q)
 
-  pub solution-accepted : words (arguments l) ≡ satisfiable ∷ [] → readSolution (settingsOf false vs) l ≡ accepted (settingsOf true vs)
-  solution-accepted = taken (arguments l) refl
+  pub solution_accepted : words (arguments l) ≡ satisfiable ∷ [] → read_solution (settings_of false vs) l ≡ accepted (settings_of true vs)
+  solution_accepted = taken (arguments l) refl

@@ -1,6 +1,6 @@
 // Answer files: reading one into a lent table of values.
 ghost use Rattle.std.specs.Prelude.{◌≡◌};
-ghost use Rattle.answer.specs.Call.{readOutcome};
+ghost use Rattle.answer.specs.Call.{read_outcome};
 
 use edition::Edition;
 use reading::read_answer;
@@ -62,7 +62,7 @@ pub enum ReadReply {
 
 // Reads an answer to a constraint file, any bytes both, and puts the values it sets at the front of `values`.
 pub fn read(constraint: &[u8], answer: &[u8], values: &mut [u64]) -> ReadReply
-    ensures { record { reply = result; values = values.new } ≡ readOutcome constraint.now answer.now values.old }
+    ensures { record { reply = result; values = values.new } ≡ read_outcome constraint.now answer.now values.old }
 {
     let mut variables = [0u64; Edition::VARIABLES];
     let mut heads = [0u8; TABLE_HEADS];

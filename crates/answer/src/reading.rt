@@ -1,16 +1,16 @@
 // Reading an answer into a row of values, line by line.
 ghost use Rattle.std.specs.Prelude.{◌≡◌, true, false, List, ℕ, ◌<◌, ◌≤◌, length, drop};
-ghost use Rattle.edition.specs.Edition.{maxVariables};
-ghost use Rattle.refusal.specs.Lists.{isThere, every};
+ghost use Rattle.edition.specs.Edition.{max_variables};
+ghost use Rattle.refusal.specs.Lists.{is_there, every};
 ghost use Rattle.refusal.specs.declared.Subject.TheVariants.{Answer};
-ghost use Rattle.text.specs.Lines.{textLines};
-ghost use Rattle.text.specs.Reading.{readAnyLine, readLines};
-ghost use Rattle.text.specs.Bytes.{isAllowed};
+ghost use Rattle.text.specs.Lines.{text_lines};
+ghost use Rattle.text.specs.Reading.{read_any_line, read_lines};
+ghost use Rattle.text.specs.Bytes.{is_allowed};
 ghost use Rattle.text.specs.Scan.{line_at};
 ghost use Rattle.store.specs.Names.{Searchable};
-ghost use Rattle.store.specs.Tables.{variablesIn};
-ghost use Rattle.answer.specs.Read.{settingsOf, answerKind, readAnswerLine, allSet, readAnswer};
-ghost use Rattle.answer.specs.Internal.{entriesIn, SettingsSized, answerStep, answerResult};
+ghost use Rattle.store.specs.Tables.{variables_in};
+ghost use Rattle.answer.specs.Read.{settings_of, answer_kind, read_answer_line, all_set, read_answer};
+ghost use Rattle.answer.specs.Internal.{entries_in, SettingsSized, answer_step, answer_result};
 
 use super::settings::value_line;
 use super::solutions::{refusal, solution_line};
@@ -23,7 +23,7 @@ use text::{Class, LineFound};
 // The kind of the line from `at` to the end.
 fn kind_of(line: &[u8], at: usize) -> AnswerLine
     requires { at ≤ length line.now }
-    ensures { result ≡ answerKind (drop at line.now) }
+    ensures { result ≡ answer_kind (drop at line.now) }
 {
     if leads(line, at, b'c') {
         return AnswerLine::OfComment;
@@ -48,8 +48,8 @@ fn read_line(
     values: &mut [u64; Edition::VARIABLES],
     solved: bool,
 ) -> AnswerProgress
-    requires { (at < length line.now) × (n ≤ maxVariables) × Searchable file.now variables.now n × SettingsSized flags.old values.old }
-    ensures { ((next : ℕ) → answerStep (entriesIn flags.new values.new n) result ≡ readAnswerLine (variablesIn file.now variables.now n) (settingsOf solved (entriesIn flags.old values.old n)) (line_at line.now at next)) × SettingsSized flags.new values.new }
+    requires { (at < length line.now) × (n ≤ max_variables) × Searchable file.now variables.now n × SettingsSized flags.old values.old }
+    ensures { ((next : ℕ) → answer_step (entries_in flags.new values.new n) result ≡ read_answer_line (variables_in file.now variables.now n) (settings_of solved (entries_in flags.old values.old n)) (line_at line.now at next)) × SettingsSized flags.new values.new }
 {
     match kind_of(line, at) {
         AnswerLine::OfComment => AnswerProgress::Next(solved),
@@ -70,8 +70,8 @@ fn read_any_line(
     values: &mut [u64; Edition::VARIABLES],
     solved: bool,
 ) -> AnswerProgress
-    requires { (at ≤ length line.now) × (n ≤ maxVariables) × Searchable file.now variables.now n × SettingsSized flags.old values.old × (every isAllowed (drop at line.now) ≡ true) }
-    ensures { ((next : ℕ) → answerStep (entriesIn flags.new values.new n) result ≡ readAnyLine Answer (readAnswerLine (variablesIn file.now variables.now n)) (settingsOf solved (entriesIn flags.old values.old n)) (line_at line.now at next)) × SettingsSized flags.new values.new }
+    requires { (at ≤ length line.now) × (n ≤ max_variables) × Searchable file.now variables.now n × SettingsSized flags.old values.old × (every is_allowed (drop at line.now) ≡ true) }
+    ensures { ((next : ℕ) → answer_step (entries_in flags.new values.new n) result ≡ read_any_line Answer (read_answer_line (variables_in file.now variables.now n)) (settings_of solved (entries_in flags.old values.old n)) (line_at line.now at next)) × SettingsSized flags.new values.new }
 {
     if all(line, at, Class::Space) {
         return AnswerProgress::Next(solved);
@@ -88,8 +88,8 @@ fn read_lines(
     flags: &mut [u8; Edition::VARIABLES],
     values: &mut [u64; Edition::VARIABLES],
 ) -> AnswerProgress
-    requires { (n ≤ maxVariables) × Searchable file.now variables.now n × SettingsSized flags.old values.old }
-    ensures { (answerStep (entriesIn flags.new values.new n) result ≡ readLines Answer (readAnswerLine (variablesIn file.now variables.now n)) (settingsOf false (entriesIn flags.old values.old n)) (textLines answer.now)) × SettingsSized flags.new values.new }
+    requires { (n ≤ max_variables) × Searchable file.now variables.now n × SettingsSized flags.old values.old }
+    ensures { (answer_step (entries_in flags.new values.new n) result ≡ read_lines Answer (read_answer_line (variables_in file.now variables.now n)) (settings_of false (entries_in flags.old values.old n)) (text_lines answer.now)) × SettingsSized flags.new values.new }
 {
     let mut solved = false;
     let mut i = 0;
@@ -117,8 +117,8 @@ fn read_lines(
 
 // Whether the first n variables are set.
 fn all_set(flags: &[u8; Edition::VARIABLES], n: usize) -> bool
-    requires { (n ≤ maxVariables) × (length flags.now ≡ maxVariables) }
-    ensures { (values : List ℕ) → result ≡ isThere (allSet (entriesIn flags.now values n)) }
+    requires { (n ≤ max_variables) × (length flags.now ≡ max_variables) }
+    ensures { (values : List ℕ) → result ≡ is_there (all_set (entries_in flags.now values n)) }
 {
     let mut i = 0;
     while i < n {
@@ -138,8 +138,8 @@ pub fn read_answer(
     answer: &[u8],
     row: &mut [u64; Edition::VARIABLES],
 ) -> AnswerRead
-    requires { (n ≤ maxVariables) × Searchable file.now variables.now n × (length row.old ≡ maxVariables) }
-    ensures { (answerResult row.new n result ≡ readAnswer (variablesIn file.now variables.now n) answer.now) × (length row.new ≡ maxVariables) }
+    requires { (n ≤ max_variables) × Searchable file.now variables.now n × (length row.old ≡ max_variables) }
+    ensures { (answer_result row.new n result ≡ read_answer (variables_in file.now variables.now n) answer.now) × (length row.new ≡ max_variables) }
 {
     if Edition::FILE_BYTES < answer.len() {
         return AnswerRead::Fault(refusal(Refusal::FILE_TOO_LONG, Edition::FILE_BYTES));

@@ -1,16 +1,16 @@
 // The `v` lines.
 ghost use Rattle.std.specs.Prelude.{◌≡◌, true, ℕ, ◌<◌, ◌≤◌, length, drop};
-ghost use Rattle.edition.specs.Edition.{maxVariables};
-ghost use Rattle.text.specs.Lines.{tokensFrom};
-ghost use Rattle.text.specs.Bytes.{frontOf};
+ghost use Rattle.edition.specs.Edition.{max_variables};
+ghost use Rattle.text.specs.Lines.{tokens_from};
+ghost use Rattle.text.specs.Bytes.{front_of};
 ghost use Rattle.text.specs.declared.Class.TheVariants.{Solid};
 ghost use Rattle.text.specs.declared.Number.TheVariants.{Misspelt};
-ghost use Rattle.text.specs.Scan.{is_of, past, tokenFrom, line_at};
-ghost use Rattle.store.specs.Hash.{hashOf};
+ghost use Rattle.text.specs.Scan.{is_of, past, token_from, line_at};
+ghost use Rattle.store.specs.Hash.{hash_of};
 ghost use Rattle.store.specs.Names.{Searchable};
-ghost use Rattle.store.specs.Tables.{variablesIn};
-ghost use Rattle.answer.specs.Read.{settingsOf, setting_of, readSettings, readValues};
-ghost use Rattle.answer.specs.Internal.{numberBehindEquals, ValueStops, settingResult, settingNamed, SettingIn, entriesIn, SettingsSized, answerStep, settingsResult};
+ghost use Rattle.store.specs.Tables.{variables_in};
+ghost use Rattle.answer.specs.Read.{settings_of, setting_of, read_settings, read_values};
+ghost use Rattle.answer.specs.Internal.{number_behind_equals, ValueStops, setting_result, setting_named, SettingIn, entries_in, SettingsSized, answer_step, settings_result};
 
 use super::solutions::refusal;
 use super::{AnswerProgress, Setting};
@@ -39,7 +39,7 @@ fn no_value(at: usize) -> Digits
 // The equals sign and the number from `at` to the end of the token; where they are not there, it is left open where the token stops.
 fn value_at(line: &[u8], at: usize) -> Digits
     requires { at ≤ length line.now }
-    ensures { (result.number ≡ numberBehindEquals (frontOf (is_of Solid) (drop at line.now))) × ValueStops (past (is_of Solid) line.now at) result.stop result.number }
+    ensures { (result.number ≡ number_behind_equals (front_of (is_of Solid) (drop at line.now))) × ValueStops (past (is_of Solid) line.now at) result.stop result.number }
 {
     if at == line.len() {
         return no_value(at);
@@ -72,8 +72,8 @@ fn setting_of(
     v: u64,
     stop: usize,
 ) -> Setting
-    requires { (at ≤ length text.now) × (n ≤ maxVariables) × Searchable file.now variables.now n × (hash ≡ hashOf (drop at text.now)) }
-    ensures { (result ≡ settingNamed (variablesIn file.now variables.now n) (drop at text.now) stop v) × SettingIn n stop result }
+    requires { (at ≤ length text.now) × (n ≤ max_variables) × Searchable file.now variables.now n × (hash ≡ hash_of (drop at text.now)) }
+    ensures { (result ≡ setting_named (variables_in file.now variables.now n) (drop at text.now) stop v) × SettingIn n stop result }
 {
     if Edition::NAME_BYTES < text.len() - at {
         return Setting::Faulty(Refusal::OVER_LIMIT);
@@ -99,8 +99,8 @@ fn setting(
     line: &[u8],
     at: usize,
 ) -> Setting
-    requires { (at < length line.now) × (n ≤ maxVariables) × Searchable file.now variables.now n }
-    ensures { (settingResult (tokenFrom line.now at) result ≡ setting_of (variablesIn file.now variables.now n) (tokenFrom line.now at)) × SettingIn n (past (is_of Solid) line.now at) result }
+    requires { (at < length line.now) × (n ≤ max_variables) × Searchable file.now variables.now n }
+    ensures { (setting_result (token_from line.now at) result ≡ setting_of (variables_in file.now variables.now n) (token_from line.now at)) × SettingIn n (past (is_of Solid) line.now at) result }
 {
     if !is_letter(line[at]) {
         return Setting::Faulty(Refusal::MISSPELT);
@@ -129,8 +129,8 @@ fn set_all(
     flags: &mut [u8; Edition::VARIABLES],
     values: &mut [u64; Edition::VARIABLES],
 ) -> AnswerProgress
-    requires { (at ≤ length line.now) × (n ≤ maxVariables) × Searchable file.now variables.now n × SettingsSized flags.old values.old }
-    ensures { (settingsResult (entriesIn flags.new values.new n) result ≡ readSettings (variablesIn file.now variables.now n) (entriesIn flags.old values.old n) (tokensFrom true at (drop at line.now))) × SettingsSized flags.new values.new }
+    requires { (at ≤ length line.now) × (n ≤ max_variables) × Searchable file.now variables.now n × SettingsSized flags.old values.old }
+    ensures { (settings_result (entries_in flags.new values.new n) result ≡ read_settings (variables_in file.now variables.now n) (entries_in flags.old values.old n) (tokens_from true at (drop at line.now))) × SettingsSized flags.new values.new }
 {
     let mut i = at;
     while i < line.len() {
@@ -166,8 +166,8 @@ pub(crate) fn value_line(
     values: &mut [u64; Edition::VARIABLES],
     solved: bool,
 ) -> AnswerProgress
-    requires { (at < length line.now) × (n ≤ maxVariables) × Searchable file.now variables.now n × SettingsSized flags.old values.old }
-    ensures { ((next : ℕ) → answerStep (entriesIn flags.new values.new n) result ≡ readValues (variablesIn file.now variables.now n) (settingsOf solved (entriesIn flags.old values.old n)) (line_at line.now at next)) × SettingsSized flags.new values.new }
+    requires { (at < length line.now) × (n ≤ max_variables) × Searchable file.now variables.now n × SettingsSized flags.old values.old }
+    ensures { ((next : ℕ) → answer_step (entries_in flags.new values.new n) result ≡ read_values (variables_in file.now variables.now n) (settings_of solved (entries_in flags.old values.old n)) (line_at line.now at next)) × SettingsSized flags.new values.new }
 {
     if !solved {
         return AnswerProgress::Stop(refusal(Refusal::MISPLACED_LINE, at));

@@ -3,10 +3,10 @@ ghost use Rattle.std.specs.Prelude.{◌≡◌, true, List, ℕ, ◌<◌, ◌≤�
 ghost use Rattle.std.proofs.Math.Option.{Option};
 ghost use Rattle.refusal.specs.Result.{refusal as refusalOf};
 ghost use Rattle.refusal.specs.declared.Subject.TheVariants.{Answer};
-ghost use Rattle.text.specs.Lines.{tokensFrom};
+ghost use Rattle.text.specs.Lines.{tokens_from};
 ghost use Rattle.text.specs.Scan.{line_at};
-ghost use Rattle.answer.specs.Read.{settingsOf, solutionOf, readSolution};
-ghost use Rattle.answer.specs.Internal.{answerStep, unlessSurplus};
+ghost use Rattle.answer.specs.Read.{settings_of, solution_of, read_solution};
+ghost use Rattle.answer.specs.Internal.{answer_step, unless_surplus};
 
 use super::words::{satisfiable, unknown, unsatisfiable};
 use super::{AnswerProgress, Solution};
@@ -29,7 +29,7 @@ pub(crate) fn refusal(number: u8, position: usize) -> Refusal
 // What the solution word from `at` to the end says.
 fn solution_at(text: &[u8], at: usize) -> Solution
     requires { at ≤ length text.now }
-    ensures { result ≡ solutionOf (drop at text.now) }
+    ensures { result ≡ solution_of (drop at text.now) }
 {
     if is_word(text, at, &satisfiable()) {
         return Solution::Satisfiable;
@@ -43,7 +43,7 @@ fn solution_at(text: &[u8], at: usize) -> Solution
 // The `s` line is read, unless another token stands from `at` on.
 fn unless_more(line: &[u8], at: usize) -> AnswerProgress
     requires { at ≤ length line.now }
-    ensures { (vs : List (Option ℕ)) → answerStep vs result ≡ unlessSurplus (tokensFrom true at (drop at line.now)) (settingsOf true vs) }
+    ensures { (vs : List (Option ℕ)) → answer_step vs result ≡ unless_surplus (tokens_from true at (drop at line.now)) (settings_of true vs) }
 {
     match next_token(line, at) {
         NextToken::OneMore(t) => AnswerProgress::Stop(refusal(Refusal::TOKEN_COUNT, t.start)),
@@ -54,7 +54,7 @@ fn unless_more(line: &[u8], at: usize) -> AnswerProgress
 // The `s` line from `at` to the end.
 pub(crate) fn solution_line(line: &[u8], at: usize, solved: bool) -> AnswerProgress
     requires { at < length line.now }
-    ensures { (vs : List (Option ℕ)) (next : ℕ) → answerStep vs result ≡ readSolution (settingsOf solved vs) (line_at line.now at next) }
+    ensures { (vs : List (Option ℕ)) (next : ℕ) → answer_step vs result ≡ read_solution (settings_of solved vs) (line_at line.now at next) }
 {
     if solved {
         return AnswerProgress::Stop(refusal(Refusal::MISPLACED_LINE, at));

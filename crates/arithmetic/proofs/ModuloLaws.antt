@@ -10,21 +10,21 @@ use borrow.Author.Tests.{lt-ltb, le-ltb}
 use Rattle.arithmetic.specs.declared.Arithmetic.TheVariants.{Add, Mul}
 use Rattle.arithmetic.specs.Signed.{signed, modulo}
 use Rattle.arithmetic.specs.Arithmetic.{computed}
-use Rattle.arithmetic.proofs.Powers.{mod-cong}
+use Rattle.arithmetic.proofs.Powers.{mod_cong}
 use Rattle.arithmetic.proofs.SignedLaws.{signed_low, signed_high}
 
 -- sums and products of numbers with the same remainders
-cong-add : (n x x' y y' : ℕ) → x % n ≡ x' % n → y % n ≡ y' % n → (x + y) % n ≡ (x' + y') % n
-cong-add n x x' y y' e f =
-    mod-cong n (x' / n + y' / n) (x / n + y / n) _ _ (omega (arith, div-add-mod' x n, div-add-mod' x' n, div-add-mod' y n, div-add-mod' y' n))
+cong_add : (n x x' y y' : ℕ) → x % n ≡ x' % n → y % n ≡ y' % n → (x + y) % n ≡ (x' + y') % n
+cong_add n x x' y y' e f =
+    mod_cong n (x' / n + y' / n) (x / n + y / n) _ _ (omega (arith, div-add-mod' x n, div-add-mod' x' n, div-add-mod' y n, div-add-mod' y' n))
 
-cong-mul : (n x x' y y' : ℕ) → x % n ≡ x' % n → y % n ≡ y' % n → (x * y) % n ≡ (x' * y') % n
-cong-mul n x x' y y' e f = half x y ∙ ap₂ (λ (a b : ℕ). a * b % n) e f ∙ sym (half x' y')
+cong_mul : (n x x' y y' : ℕ) → x % n ≡ x' % n → y % n ≡ y' % n → (x * y) % n ≡ (x' * y') % n
+cong_mul n x x' y y' e f = half x y ∙ ap₂ (λ (a b : ℕ). a * b % n) e f ∙ sym (half x' y')
   where
     half : (x y : ℕ) → x * y % n ≡ (x % n * (y % n)) % n
     half x y =
         ap₂ (λ (a b : ℕ). a * b % n) (sym (div-add-mod' x n)) (sym (div-add-mod' y n))
-        ∙ mod-cong n 0 (x / n * (y / n) * n + x / n * (y % n) + x % n * (y / n)) ((x / n * n + x % n) * (y / n * n + y % n)) (x % n * (y % n)) (omega arith)
+        ∙ mod_cong n 0 (x / n * (y / n) * n + x / n * (y % n) + x % n * (y / n)) ((x / n * n + x % n) * (y / n * n + y % n)) (x % n * (y % n)) (omega arith)
 
 -- an integer as a number, where -1 is m and the modulus suc m
 module _ (m : ℕ) where
@@ -32,72 +32,72 @@ module _ (m : ℕ) where
   lift (pos a) = a
   lift (negsuc a) = suc a * m
 
-  lift-neg : (n : ℕ) → lift (neg_ℤ (pos n)) ≡ n * m
+  lift_neg : (n : ℕ) → lift (neg_ℤ (pos n)) ≡ n * m
   unfolding lift
-  lift-neg zero = omega arith
-  lift-neg (suc n) = refl
+  lift_neg zero = omega arith
+  lift_neg (suc n) = refl
 
   square : (c : ℕ) → (c * m * m) % suc m ≡ c % suc m
-  square c = mod-cong (suc m) c (c * m) (c * m * m) c (omega arith)
+  square c = mod_cong (suc m) c (c * m) (c * m * m) c (omega arith)
 
-  lift-mul : (x y : ℤ) → lift (x *ℤ y) % suc m ≡ (lift x * lift y) % suc m
+  lift_mul : (x y : ℤ) → lift (x *ℤ y) % suc m ≡ (lift x * lift y) % suc m
   unfolding lift
-  lift-mul (pos a) (pos b) = refl
-  lift-mul (pos a) (negsuc b) = ap (λ (z : ℕ). z % suc m) (lift-neg (a * suc b) ∙ omega arith)
-  lift-mul (negsuc a) (pos b) = ap (λ (z : ℕ). z % suc m) (lift-neg (suc a * b) ∙ omega arith)
-  lift-mul (negsuc a) (negsuc b) = sym (square (suc a * suc b)) ∙ ap (λ (z : ℕ). z % suc m) (omega arith)
+  lift_mul (pos a) (pos b) = refl
+  lift_mul (pos a) (negsuc b) = ap (λ (z : ℕ). z % suc m) (lift_neg (a * suc b) ∙ omega arith)
+  lift_mul (negsuc a) (pos b) = ap (λ (z : ℕ). z % suc m) (lift_neg (suc a * b) ∙ omega arith)
+  lift_mul (negsuc a) (negsuc b) = sym (square (suc a * suc b)) ∙ ap (λ (z : ℕ). z % suc m) (omega arith)
 
-  lift-sub : (a b : ℕ) → lift (sub_ℕ a b) % suc m ≡ (a + b * m) % suc m
+  lift_sub : (a b : ℕ) → lift (sub_ℕ a b) % suc m ≡ (a + b * m) % suc m
   unfolding lift
-  lift-sub a b = elim (dec_lt a b) [
-    | yes h ↦ rw (lt-ltb a b h) (mod-cong (suc m) a 0 (suc (b - suc a) * m) (a + b * m) (let e : b ≡ suc (b - suc a) + a = omega arith in omega (arith, ap (λ (z : ℕ). z * m) e)))
-    | no h ↦ rw (le-ltb a b (omega arith)) (mod-cong (suc m) b 0 (a - b) (a + b * m) (omega arith))
+  lift_sub a b = elim (dec_lt a b) [
+    | yes h ↦ rw (lt-ltb a b h) (mod_cong (suc m) a 0 (suc (b - suc a) * m) (a + b * m) (let e : b ≡ suc (b - suc a) + a = omega arith in omega (arith, ap (λ (z : ℕ). z * m) e)))
+    | no h ↦ rw (le-ltb a b (omega arith)) (mod_cong (suc m) b 0 (a - b) (a + b * m) (omega arith))
   ]
 
-  lift-add : (x y : ℤ) → lift (x +ℤ y) % suc m ≡ (lift x + lift y) % suc m
+  lift_add : (x y : ℤ) → lift (x +ℤ y) % suc m ≡ (lift x + lift y) % suc m
   unfolding lift
-  lift-add (pos a) (pos b) = refl
-  lift-add (pos a) (negsuc b) = lift-sub a (suc b)
-  lift-add (negsuc a) (pos b) = lift-sub b (suc a) ∙ ap (λ (z : ℕ). z % suc m) (omega arith)
-  lift-add (negsuc a) (negsuc b) = ap (λ (z : ℕ). z % suc m) (omega arith)
+  lift_add (pos a) (pos b) = refl
+  lift_add (pos a) (negsuc b) = lift_sub a (suc b)
+  lift_add (negsuc a) (pos b) = lift_sub b (suc a) ∙ ap (λ (z : ℕ). z % suc m) (omega arith)
+  lift_add (negsuc a) (negsuc b) = ap (λ (z : ℕ). z % suc m) (omega arith)
 
   -- the remainder of a lift, as `modulo` has it
-  lift-mod : (a : ℕ) → (suc a * m) % suc m ≡ m - a % suc m
-  lift-mod a =
+  lift_mod : (a : ℕ) → (suc a * m) % suc m ≡ m - a % suc m
+  lift_mod a =
       let l : a % suc m < suc m = mod-lt a (omega arith) in
       let e : a / suc m * suc m + a % suc m ≡ a = div-add-mod' a (suc m) in
-      mod-cong (suc m) 0 (a / suc m * m + a % suc m) (suc a * m) (m - a % suc m) (omega (arith, ap (λ (z : ℕ). z * m) e))
+      mod_cong (suc m) 0 (a / suc m * m + a % suc m) (suc a * m) (m - a % suc m) (omega (arith, ap (λ (z : ℕ). z * m) e))
       ∙ mod-eq_of_lt (omega arith)
 
 -- an integer modulo 2 ^ k is the remainder of its lift
-modulo-lift : (k : ℕ) (z : ℤ) → modulo k z ≡ lift (2 ^ k - 1) z % 2 ^ k
+modulo_lift : (k : ℕ) (z : ℤ) → modulo k z ≡ lift (2 ^ k - 1) z % 2 ^ k
 unfolding modulo lift
-modulo-lift k (pos a) = refl
-modulo-lift k (negsuc a) = sym (subst (λ (n : ℕ). (suc a * (2 ^ k - 1)) % n ≡ 2 ^ k - 1 - a % n) (suc_ones k) (lift-mod (2 ^ k - 1) a))
+modulo_lift k (pos a) = refl
+modulo_lift k (negsuc a) = sym (subst (λ (n : ℕ). (suc a * (2 ^ k - 1)) % n ≡ 2 ^ k - 1 - a % n) (suc_ones k) (lift_mod (2 ^ k - 1) a))
 
-lift-modulo : (k : ℕ) (z : ℤ) → lift (2 ^ k - 1) z % 2 ^ k ≡ modulo k z % 2 ^ k
-lift-modulo k z = sym (ap (λ (n : ℕ). n % 2 ^ k) (modulo-lift k z) ∙ mod-mod (lift (2 ^ k - 1) z) (2 ^ k))
+lift_modulo : (k : ℕ) (z : ℤ) → lift (2 ^ k - 1) z % 2 ^ k ≡ modulo k z % 2 ^ k
+lift_modulo k z = sym (ap (λ (n : ℕ). n % 2 ^ k) (modulo_lift k z) ∙ mod-mod (lift (2 ^ k - 1) z) (2 ^ k))
 
 -- a law of lifts, at 2 ^ k
-at-pow : (k : ℕ) (x y : ℕ → ℕ) → ((m : ℕ) → x m % suc m ≡ y m % suc m) → x (2 ^ k - 1) % 2 ^ k ≡ y (2 ^ k - 1) % 2 ^ k
-at-pow k x y f = subst (λ (n : ℕ). x (2 ^ k - 1) % n ≡ y (2 ^ k - 1) % n) (suc_ones k) (f (2 ^ k - 1))
+at_pow : (k : ℕ) (x y : ℕ → ℕ) → ((m : ℕ) → x m % suc m ≡ y m % suc m) → x (2 ^ k - 1) % 2 ^ k ≡ y (2 ^ k - 1) % 2 ^ k
+at_pow k x y f = subst (λ (n : ℕ). x (2 ^ k - 1) % n ≡ y (2 ^ k - 1) % n) (suc_ones k) (f (2 ^ k - 1))
 
-pub modulo-lt : (k : ℕ) (z : ℤ) → modulo k z < 2 ^ k
-modulo-lt k z = rw (modulo-lift k z) (mod-lt (lift (2 ^ k - 1) z) (pow_pos k))
+pub modulo_lt : (k : ℕ) (z : ℤ) → modulo k z < 2 ^ k
+modulo_lt k z = rw (modulo_lift k z) (mod-lt (lift (2 ^ k - 1) z) (pow_pos k))
 
 pub modulo-mul : (k : ℕ) (x y : ℤ) → modulo k (x *ℤ y) ≡ computed Mul k (modulo k x) (modulo k y)
 unfolding computed
 modulo-mul k x y =
-    modulo-lift k (x *ℤ y)
-    ∙ at-pow k (λ m. lift m (x *ℤ y)) (λ m. lift m x * lift m y) (λ m. lift-mul m x y)
-    ∙ cong-mul (2 ^ k) (lift (2 ^ k - 1) x) (modulo k x) (lift (2 ^ k - 1) y) (modulo k y) (lift-modulo k x) (lift-modulo k y)
+    modulo_lift k (x *ℤ y)
+    ∙ at_pow k (λ m. lift m (x *ℤ y)) (λ m. lift m x * lift m y) (λ m. lift_mul m x y)
+    ∙ cong_mul (2 ^ k) (lift (2 ^ k - 1) x) (modulo k x) (lift (2 ^ k - 1) y) (modulo k y) (lift_modulo k x) (lift_modulo k y)
 
 pub modulo-add : (k : ℕ) (x y : ℤ) → modulo k (x +ℤ y) ≡ computed Add k (modulo k x) (modulo k y)
 unfolding computed
 modulo-add k x y =
-    modulo-lift k (x +ℤ y)
-    ∙ at-pow k (λ m. lift m (x +ℤ y)) (λ m. lift m x + lift m y) (λ m. lift-add m x y)
-    ∙ cong-add (2 ^ k) (lift (2 ^ k - 1) x) (modulo k x) (lift (2 ^ k - 1) y) (modulo k y) (lift-modulo k x) (lift-modulo k y)
+    modulo_lift k (x +ℤ y)
+    ∙ at_pow k (λ m. lift m (x +ℤ y)) (λ m. lift m x + lift m y) (λ m. lift_add m x y)
+    ∙ cong_add (2 ^ k) (lift (2 ^ k - 1) x) (modulo k x) (lift (2 ^ k - 1) y) (modulo k y) (lift_modulo k x) (lift_modulo k y)
 
 -- the signed reading, back to a number of k bits
 pub modulo-signed : (k a : ℕ) → a < 2 ^ k → modulo k (signed k a) ≡ a

@@ -12,7 +12,7 @@ use Rattle.arithmetic.specs.declared.Arithmetic.TheVariants.{Add, Sub, Mul}
 use Rattle.arithmetic.specs.declared.Division.TheVariants.{Udiv, Sdiv, Urem, Srem}
 use Rattle.arithmetic.specs.declared.Shift.TheVariants.{Shl, Ashr, Lshr}
 use Rattle.arithmetic.specs.declared.Extension.TheVariants.{Sext, Zext}
-use Rattle.arithmetic.specs.Numbering.{listed, operatorNumbered, bitwiseNumber, comparisonNumber, arithmeticNumber, divisionNumber, shiftNumber, extensionNumber, operatorNumber}
+use Rattle.arithmetic.specs.Numbering.{listed, operator_numbered, bitwise_number, comparison_number, arithmetic_number, division_number, shift_number, extension_number, operator_number}
 
 -- x is none of the numbers below k, as a `match` leaves it to its last arm; so it is at least k
 abbrev Missed : ℕ → ℕ → Type 0
@@ -27,78 +27,78 @@ missed (suc k) x m =
     omega arith
 
 -- from the last number on, the last operator
-pub last : (n : ℕ) → Missed 30 n → Extr ≡ operatorNumbered n
-unfolding operatorNumbered listed
+pub last : (n : ℕ) → Missed 30 n → Extr ≡ operator_numbered n
+unfolding operator_numbered listed
 last n m = elim (ℕ_discrete n 30) [
   | yes e ↦ rw e
   | no d ↦ let h = missed 30 n m in let l : length listed ≤ n = omega arith in sym (get_or-eq_default listed Extr l)
 ]
 
-pub give-back : (op : Operator) → operatorNumbered (operatorNumber op) ≡ op
-unfolding operatorNumbered listed operatorNumber bitwiseNumber comparisonNumber arithmeticNumber divisionNumber shiftNumber extensionNumber
-give-back (Combine And) = refl
-give-back (Combine Or) = refl
-give-back (Combine Xor) = refl
-give-back Not = refl
-give-back Implies = refl
-give-back (Compare Equal) = refl
-give-back (Compare NotEqual) = refl
-give-back (Compare Ule) = refl
-give-back (Compare Uge) = refl
-give-back (Compare Ult) = refl
-give-back (Compare Ugt) = refl
-give-back (Compare Sle) = refl
-give-back (Compare Sge) = refl
-give-back (Compare Slt) = refl
-give-back (Compare Sgt) = refl
-give-back Ite = refl
-give-back (Compute Add) = refl
-give-back (Compute Sub) = refl
-give-back (Compute Mul) = refl
-give-back (Divide Udiv) = refl
-give-back (Divide Sdiv) = refl
-give-back (Divide Urem) = refl
-give-back (Divide Srem) = refl
-give-back (Move Shl) = refl
-give-back (Move Ashr) = refl
-give-back (Move Lshr) = refl
-give-back Trun = refl
-give-back (Extend Sext) = refl
-give-back (Extend Zext) = refl
-give-back Conc = refl
-give-back Extr = refl
+pub give_back : (op : Operator) → operator_numbered (operator_number op) ≡ op
+unfolding operator_numbered listed operator_number bitwise_number comparison_number arithmetic_number division_number shift_number extension_number
+give_back (Combine And) = refl
+give_back (Combine Or) = refl
+give_back (Combine Xor) = refl
+give_back Not = refl
+give_back Implies = refl
+give_back (Compare Equal) = refl
+give_back (Compare NotEqual) = refl
+give_back (Compare Ule) = refl
+give_back (Compare Uge) = refl
+give_back (Compare Ult) = refl
+give_back (Compare Ugt) = refl
+give_back (Compare Sle) = refl
+give_back (Compare Sge) = refl
+give_back (Compare Slt) = refl
+give_back (Compare Sgt) = refl
+give_back Ite = refl
+give_back (Compute Add) = refl
+give_back (Compute Sub) = refl
+give_back (Compute Mul) = refl
+give_back (Divide Udiv) = refl
+give_back (Divide Sdiv) = refl
+give_back (Divide Urem) = refl
+give_back (Divide Srem) = refl
+give_back (Move Shl) = refl
+give_back (Move Ashr) = refl
+give_back (Move Lshr) = refl
+give_back Trun = refl
+give_back (Extend Sext) = refl
+give_back (Extend Zext) = refl
+give_back Conc = refl
+give_back Extr = refl
 
 -- the number of an operator is no more than the last
-pub number-most : (op : Operator) → operatorNumber op ≤ 30
-unfolding operatorNumber bitwiseNumber comparisonNumber arithmeticNumber divisionNumber shiftNumber extensionNumber
-number-most (Combine And) = omega arith
-number-most (Combine Or) = omega arith
-number-most (Combine Xor) = omega arith
-number-most Not = omega arith
-number-most Implies = omega arith
-number-most (Compare Equal) = omega arith
-number-most (Compare NotEqual) = omega arith
-number-most (Compare Ule) = omega arith
-number-most (Compare Uge) = omega arith
-number-most (Compare Ult) = omega arith
-number-most (Compare Ugt) = omega arith
-number-most (Compare Sle) = omega arith
-number-most (Compare Sge) = omega arith
-number-most (Compare Slt) = omega arith
-number-most (Compare Sgt) = omega arith
-number-most Ite = omega arith
-number-most (Compute Add) = omega arith
-number-most (Compute Sub) = omega arith
-number-most (Compute Mul) = omega arith
-number-most (Divide Udiv) = omega arith
-number-most (Divide Sdiv) = omega arith
-number-most (Divide Urem) = omega arith
-number-most (Divide Srem) = omega arith
-number-most (Move Shl) = omega arith
-number-most (Move Ashr) = omega arith
-number-most (Move Lshr) = omega arith
-number-most Trun = omega arith
-number-most (Extend Sext) = omega arith
-number-most (Extend Zext) = omega arith
-number-most Conc = omega arith
-number-most Extr = omega arith
+pub number_most : (op : Operator) → operator_number op ≤ 30
+unfolding operator_number bitwise_number comparison_number arithmetic_number division_number shift_number extension_number
+number_most (Combine And) = omega arith
+number_most (Combine Or) = omega arith
+number_most (Combine Xor) = omega arith
+number_most Not = omega arith
+number_most Implies = omega arith
+number_most (Compare Equal) = omega arith
+number_most (Compare NotEqual) = omega arith
+number_most (Compare Ule) = omega arith
+number_most (Compare Uge) = omega arith
+number_most (Compare Ult) = omega arith
+number_most (Compare Ugt) = omega arith
+number_most (Compare Sle) = omega arith
+number_most (Compare Sge) = omega arith
+number_most (Compare Slt) = omega arith
+number_most (Compare Sgt) = omega arith
+number_most Ite = omega arith
+number_most (Compute Add) = omega arith
+number_most (Compute Sub) = omega arith
+number_most (Compute Mul) = omega arith
+number_most (Divide Udiv) = omega arith
+number_most (Divide Sdiv) = omega arith
+number_most (Divide Urem) = omega arith
+number_most (Divide Srem) = omega arith
+number_most (Move Shl) = omega arith
+number_most (Move Ashr) = omega arith
+number_most (Move Lshr) = omega arith
+number_most Trun = omega arith
+number_most (Extend Sext) = omega arith
+number_most (Extend Zext) = omega arith
+number_most Conc = omega arith
+number_most Extr = omega arith

@@ -17,15 +17,15 @@ use Rattle.arithmetic.specs.Signed.{signed}
 use Rattle.arithmetic.specs.Arithmetic.{shifted}
 use Rattle.arithmetic.specs.Claims.{SignedRange, ShiftedOut}
 use Rattle.arithmetic.proofs.Powers.{double, shl_gone, shr_gone}
-use Rattle.arithmetic.proofs.SignedLaws.{signed_low, signed_high, ashr-low, ashr-high}
+use Rattle.arithmetic.proofs.SignedLaws.{signed_low, signed_high, ashr_low, ashr_high}
 use Rattle.arithmetic.proofs.ModuloLaws.{modulo-signed}
 
 -- ---- the range
 at_least : (x y : ℤ) → le_z x y ≡ true → x ≤ℤ y
 at_least x y e = record { le = subst T (sym e) tt }
 
-less-than : (x y : ℤ) → lt_z x y ≡ true → x <ℤ y
-less-than x y e = record { lt = subst T (sym e) tt }
+less_than : (x y : ℤ) → lt_z x y ≡ true → x <ℤ y
+less_than x y e = record { lt = subst T (sym e) tt }
 
 module _ (k a : ℕ) (hk : 1 ≤ k) (ha : a < 2 ^ k) where
   lowest : le_z (negsuc (2 ^ (k - 1) - 1)) (signed k a) ≡ true
@@ -43,7 +43,7 @@ module _ (k a : ℕ) (hk : 1 ≤ k) (ha : a < 2 ^ k) where
   pub reading : SignedRange k a
   reading = record {
     from = subst (λ (h : ℕ). neg_ℤ (pos h) ≤ℤ signed k a) (suc_ones (k - 1)) (at_least (negsuc (2 ^ (k - 1) - 1)) (signed k a) lowest);
-    below = less-than (signed k a) (pos (2 ^ (k - 1))) highest;
+    below = less_than (signed k a) (pos (2 ^ (k - 1))) highest;
     back = modulo-signed k a ha;
   }
 
@@ -59,9 +59,9 @@ all_ones zero = refl
 all_ones (suc k) = rw (all_ones k) (omega (arith, pow_pos k))
 
 module _ (k a n : ℕ) (hk : 1 ≤ k) (ha : a < 2 ^ k) (hn : k ≤ n) where
-  top-clear : a < 2 ^ (k - 1) → bit a (k - 1) ≡ 0
+  top_clear : a < 2 ^ (k - 1) → bit a (k - 1) ≡ 0
   unfolding bit
-  top-clear p = rw (div-eq_of_lt p)
+  top_clear p = rw (div-eq_of_lt p)
 
   top_set : ¬ (a < 2 ^ (k - 1)) → bit a (k - 1) ≡ 1
   unfolding bit
@@ -72,14 +72,14 @@ module _ (k a n : ℕ) (hk : 1 ≤ k) (ha : a < 2 ^ k) (hn : k ≤ n) where
 
   everywhere : shifted Ashr k a n ≡ places k (λ i. bit a (k - 1))
   everywhere = elim (dec_lt a (2 ^ (k - 1))) [
-    | yes p ↦ rw (top-clear p, zeros k) (sym (ashr-low k a n p ha) ∙ shr_gone k a n hn ha)
+    | yes p ↦ rw (top_clear p, zeros k) (sym (ashr_low k a n p ha) ∙ shr_gone k a n hn ha)
     | no p ↦
         rw (top_set p, all_ones k)
-        (sym (ashr-high k a n (omega arith) ha)
+        (sym (ashr_high k a n (omega arith) ha)
         ∙ ap (λ (x : ℕ). 2 ^ k - 1 - x) (shr_gone k (2 ^ k - 1 - a) n hn (ones_sub-lt k a))
         ∙ sub-zero (2 ^ k - 1))
   ]
 
-  pub shifted-out : ShiftedOut k a n
+  pub shifted_out : ShiftedOut k a n
   unfolding shifted
-  shifted-out = record { left = shl_gone k a n hn; right = shr_gone k a n hn ha; top = everywhere }
+  shifted_out = record { left = shl_gone k a n hn; right = shr_gone k a n hn ha; top = everywhere }

@@ -28,36 +28,36 @@ unfolding signed
 signed_high k a h l = rw (le-ltb a (2 ^ (k - 1)) h, lt-ltb a (2 ^ k) l)
 
 -- the magnitude
-pub magnitude-low : (k a : ℕ) → a < 2 ^ (k - 1) → nat_abs (signed k a) ≡ a
-magnitude-low k a h = rw (signed_low k a h)
+pub magnitude_low : (k a : ℕ) → a < 2 ^ (k - 1) → nat_abs (signed k a) ≡ a
+magnitude_low k a h = rw (signed_low k a h)
 
-pub magnitude-high : (k a : ℕ) → 2 ^ (k - 1) ≤ a → a < 2 ^ k → nat_abs (signed k a) ≡ 2 ^ k - 1 - a + 1
-magnitude-high k a h l = rw (signed_high k a h l) (omega arith)
+pub magnitude_high : (k a : ℕ) → 2 ^ (k - 1) ≤ a → a < 2 ^ k → nat_abs (signed k a) ≡ 2 ^ k - 1 - a + 1
+magnitude_high k a h l = rw (signed_high k a h l) (omega arith)
 
-pub magnitude-le : (k a : ℕ) → 1 ≤ k → a < 2 ^ k → nat_abs (signed k a) ≤ 2 ^ (k - 1)
-magnitude-le k a hk l = elim (dec_lt a (2 ^ (k - 1))) [
-  | yes h ↦ omega (arith, magnitude-low k a h)
-  | no h ↦ let g : 2 ^ (k - 1) ≤ a = omega arith in omega (arith, magnitude-high k a g l, double k hk)
+pub magnitude_le : (k a : ℕ) → 1 ≤ k → a < 2 ^ k → nat_abs (signed k a) ≤ 2 ^ (k - 1)
+magnitude_le k a hk l = elim (dec_lt a (2 ^ (k - 1))) [
+  | yes h ↦ omega (arith, magnitude_low k a h)
+  | no h ↦ let g : 2 ^ (k - 1) ≤ a = omega arith in omega (arith, magnitude_high k a g l, double k hk)
 ]
 
 -- what is no larger has k bits
-pub within-magnitude : (k a n : ℕ) → 1 ≤ k → a < 2 ^ k → n ≤ nat_abs (signed k a) → n < 2 ^ k
-within-magnitude k a n hk l h = omega (arith, magnitude-le k a hk l, double k hk, pow_pos (k - 1))
+pub within_magnitude : (k a n : ℕ) → 1 ≤ k → a < 2 ^ k → n ≤ nat_abs (signed k a) → n < 2 ^ k
+within_magnitude k a n hk l h = omega (arith, magnitude_le k a hk l, double k hk, pow_pos (k - 1))
 
-pub magnitude-pos : (k a : ℕ) → a < 2 ^ k → 0 < a → 0 < nat_abs (signed k a)
-magnitude-pos k a l p = elim (dec_lt a (2 ^ (k - 1))) [
-  | yes h ↦ omega (arith, magnitude-low k a h)
-  | no h ↦ let g : 2 ^ (k - 1) ≤ a = omega arith in omega (arith, magnitude-high k a g l)
+pub magnitude_pos : (k a : ℕ) → a < 2 ^ k → 0 < a → 0 < nat_abs (signed k a)
+magnitude_pos k a l p = elim (dec_lt a (2 ^ (k - 1))) [
+  | yes h ↦ omega (arith, magnitude_low k a h)
+  | no h ↦ let g : 2 ^ (k - 1) ≤ a = omega arith in omega (arith, magnitude_high k a g l)
 ]
 
-pub magnitude-lt : (k a : ℕ) → a < 2 ^ k → non_neg (signed k a) ≡ true → nat_abs (signed k a) < 2 ^ (k - 1)
-magnitude-lt k a l s = elim (dec_lt a (2 ^ (k - 1))) [
-  | yes h ↦ omega (arith, magnitude-low k a h)
+pub magnitude_lt : (k a : ℕ) → a < 2 ^ k → non_neg (signed k a) ≡ true → nat_abs (signed k a) < 2 ^ (k - 1)
+magnitude_lt k a l s = elim (dec_lt a (2 ^ (k - 1))) [
+  | yes h ↦ omega (arith, magnitude_low k a h)
   | no h ↦ never (cc (s, signed_high k a (omega arith) l))
 ]
 
-pub sign-is : (k a : ℕ) → a < 2 ^ k → non_neg (signed k a) ≡ ltb a (2 ^ (k - 1))
-sign-is k a l = elim (dec_lt a (2 ^ (k - 1))) [
+pub sign_is : (k a : ℕ) → a < 2 ^ k → non_neg (signed k a) ≡ ltb a (2 ^ (k - 1))
+sign_is k a l = elim (dec_lt a (2 ^ (k - 1))) [
   | yes h ↦ rw (signed_low k a h) (sym (lt-ltb a (2 ^ (k - 1)) h))
   | no h ↦ let g : 2 ^ (k - 1) ≤ a = omega arith in rw (signed_high k a g l) (sym (le-ltb a (2 ^ (k - 1)) g))
 ]
@@ -72,13 +72,13 @@ minus_is k (suc n) h =
     rw (mod-eq_of_lt l, mod-eq_of_lt g) (omega arith)
 
 -- the arithmetic shift
-pub ashr-low : (k a n : ℕ) → a < 2 ^ (k - 1) → a < 2 ^ k → a / 2 ^ n ≡ shifted Ashr k a n
+pub ashr_low : (k a n : ℕ) → a < 2 ^ (k - 1) → a < 2 ^ k → a / 2 ^ n ≡ shifted Ashr k a n
 unfolding shifted modulo
-ashr-low k a n h l = let q : a / 2 ^ n < 2 ^ k = omega (arith, div-le_self a (2 ^ n)) in rw (signed_low k a h) (sym (mod-eq_of_lt q))
+ashr_low k a n h l = let q : a / 2 ^ n < 2 ^ k = omega (arith, div-le_self a (2 ^ n)) in rw (signed_low k a h) (sym (mod-eq_of_lt q))
 
-pub ashr-high : (k a n : ℕ) → 2 ^ (k - 1) ≤ a → a < 2 ^ k → 2 ^ k - 1 - (2 ^ k - 1 - a) / 2 ^ n ≡ shifted Ashr k a n
+pub ashr_high : (k a n : ℕ) → 2 ^ (k - 1) ≤ a → a < 2 ^ k → 2 ^ k - 1 - (2 ^ k - 1 - a) / 2 ^ n ≡ shifted Ashr k a n
 unfolding shifted modulo
-ashr-high k a n h l =
+ashr_high k a n h l =
     let e : 2 ^ k - 1 - a ≡ 2 ^ k - suc a = omega arith in
     let q : (2 ^ k - suc a) / 2 ^ n < 2 ^ k = omega (arith, div-le_self (2 ^ k - suc a) (2 ^ n)) in
     rw (signed_high k a h l, mod-eq_of_lt q, e)
@@ -88,9 +88,9 @@ pub sext_low : (x k a : ℕ) → x ≤ k → a < 2 ^ (x - 1) → a < 2 ^ x → a
 unfolding extended modulo
 sext_low x k a h p l = rw (signed_low x a p) (sym (mod-eq_of_lt (lt_of_lt_of_le l (pow_mono h))))
 
-pub sext-high : (x k a : ℕ) → x ≤ k → 2 ^ (x - 1) ≤ a → a < 2 ^ x → 2 ^ k - 1 - (2 ^ x - 1 - a) ≡ extended Sext x k a
+pub sext_high : (x k a : ℕ) → x ≤ k → 2 ^ (x - 1) ≤ a → a < 2 ^ x → 2 ^ k - 1 - (2 ^ x - 1 - a) ≡ extended Sext x k a
 unfolding extended modulo
-sext-high x k a h p l =
+sext_high x k a h p l =
     let g : 2 ^ x ≤ 2 ^ k = pow_mono h in
     let q : 2 ^ x - suc a < 2 ^ k = omega arith in
     rw (signed_high x a p l, mod-eq_of_lt q) (omega arith)

@@ -21,33 +21,33 @@ absent = 0 ∶ 0
 
 -- an operator, its operands, and its result
 pub record Case : Type 0 where
-  pub caseOperator : Operator
-  pub caseFirst : Word
-  pub caseSecond : Word
-  pub caseThird : Word
-  pub caseResult : Word
+  pub case_operator : Operator
+  pub case_first : Word
+  pub case_second : Word
+  pub case_third : Word
+  pub case_result : Word
 
-abbrev pub tableCase : Operator → Word → Word → Word → Word → Case
-tableCase op a b c r = record { caseOperator = op; caseFirst = a; caseSecond = b; caseThird = c; caseResult = r }
+abbrev pub table_case : Operator → Word → Word → Word → Word → Case
+table_case op a b c r = record { case_operator = op; case_first = a; case_second = b; case_third = c; case_result = r }
 
 -- W9 has two cases, one for `/s` and one for `%s`
 unfoldable pub cases : List Case
 cases =
-    tableCase Conc (1 ∶ 8) (0 ∶ 8) absent (256 ∶ 16)
-    ∷ tableCase Extr (22 ∶ 8) (0 ∶ 8) (3 ∶ 8) (6 ∶ 3)
-    ∷ tableCase Extr (22 ∶ 8) (3 ∶ 8) (4 ∶ 8) (0 ∶ 1)
-    ∷ tableCase Trun (43 ∶ 32) absent absent (3 ∶ 2)
-    ∷ tableCase (Compute Add) (1 ∶ 8) (128 ∶ 8) absent (129 ∶ 8)
-    ∷ tableCase (Compute Sub) (1 ∶ 8) (128 ∶ 8) absent (129 ∶ 8)
-    ∷ tableCase (Compare Slt) (128 ∶ 8) (127 ∶ 8) absent (1 ∶ 1)
-    ∷ tableCase (Compare Sge) (0 ∶ 1) (1 ∶ 1) absent (1 ∶ 1)
-    ∷ tableCase (Divide Sdiv) (249 ∶ 8) (2 ∶ 8) absent (253 ∶ 8)
-    ∷ tableCase (Divide Srem) (249 ∶ 8) (2 ∶ 8) absent (255 ∶ 8)
-    ∷ tableCase (Divide Sdiv) (128 ∶ 8) (255 ∶ 8) absent (128 ∶ 8)
-    ∷ tableCase (Move Shl) (1 ∶ 8) (8 ∶ 8) absent (0 ∶ 8)
-    ∷ tableCase (Move Ashr) (128 ∶ 8) (200 ∶ 8) absent (255 ∶ 8)
+    table_case Conc (1 ∶ 8) (0 ∶ 8) absent (256 ∶ 16)
+    ∷ table_case Extr (22 ∶ 8) (0 ∶ 8) (3 ∶ 8) (6 ∶ 3)
+    ∷ table_case Extr (22 ∶ 8) (3 ∶ 8) (4 ∶ 8) (0 ∶ 1)
+    ∷ table_case Trun (43 ∶ 32) absent absent (3 ∶ 2)
+    ∷ table_case (Compute Add) (1 ∶ 8) (128 ∶ 8) absent (129 ∶ 8)
+    ∷ table_case (Compute Sub) (1 ∶ 8) (128 ∶ 8) absent (129 ∶ 8)
+    ∷ table_case (Compare Slt) (128 ∶ 8) (127 ∶ 8) absent (1 ∶ 1)
+    ∷ table_case (Compare Sge) (0 ∶ 1) (1 ∶ 1) absent (1 ∶ 1)
+    ∷ table_case (Divide Sdiv) (249 ∶ 8) (2 ∶ 8) absent (253 ∶ 8)
+    ∷ table_case (Divide Srem) (249 ∶ 8) (2 ∶ 8) absent (255 ∶ 8)
+    ∷ table_case (Divide Sdiv) (128 ∶ 8) (255 ∶ 8) absent (128 ∶ 8)
+    ∷ table_case (Move Shl) (1 ∶ 8) (8 ∶ 8) absent (0 ∶ 8)
+    ∷ table_case (Move Ashr) (128 ∶ 8) (200 ∶ 8) absent (255 ∶ 8)
     ∷ []
 
 -- the meaning of each case, at the width of its result, is its result
 abbrev pub TableCases : Type 0
-TableCases = map (λ r. meaning r.caseOperator r.caseResult.width r.caseFirst r.caseSecond r.caseThird) cases ≡ map (λ r. some r.caseResult.value) cases
+TableCases = map (λ r. meaning r.case_operator r.case_result.width r.case_first r.case_second r.case_third) cases ≡ map (λ r. some r.case_result.value) cases

@@ -12,7 +12,7 @@ use Rattle.arithmetic.specs.declared.Division.{Division}
 use Rattle.arithmetic.specs.declared.Division.TheVariants.{Udiv, Sdiv, Urem, Srem}
 use Rattle.arithmetic.specs.declared.Shift.TheVariants.{Shl, Ashr, Lshr}
 use Rattle.arithmetic.specs.declared.Word.{Word}
-use Rattle.arithmetic.specs.Rules.{widthsHold, typed, operandsFit}
+use Rattle.arithmetic.specs.Rules.{widths_hold, typed, operands_fit}
 use Rattle.arithmetic.specs.Bits.{bit, places}
 use Rattle.arithmetic.specs.Signed.{signed, modulo}
 use Rattle.arithmetic.specs.Flags.{compared}
@@ -37,32 +37,32 @@ abbrev pub Orders : Type 0
 Orders = (o : Comparison) (k a b : ℕ) → 1 ≤ k → a < 2 ^ k → b < 2 ^ k → compared o k a b ≡ ordered o k a b
 
 -- whether an operator divides, and by zero
-unfoldable pub zeroDivisor : Operator → Word → Bool
-zeroDivisor (Combine o) b = false
-zeroDivisor Not b = false
-zeroDivisor Implies b = false
-zeroDivisor (Compare o) b = false
-zeroDivisor Ite b = false
-zeroDivisor (Compute o) b = false
-zeroDivisor (Divide o) b = eqb b.value 0
-zeroDivisor (Move o) b = false
-zeroDivisor Trun b = false
-zeroDivisor (Extend o) b = false
-zeroDivisor Conc b = false
-zeroDivisor Extr b = false
+unfoldable pub zero_divisor : Operator → Word → Bool
+zero_divisor (Combine o) b = false
+zero_divisor Not b = false
+zero_divisor Implies b = false
+zero_divisor (Compare o) b = false
+zero_divisor Ite b = false
+zero_divisor (Compute o) b = false
+zero_divisor (Divide o) b = eqb b.value 0
+zero_divisor (Move o) b = false
+zero_divisor Trun b = false
+zero_divisor (Extend o) b = false
+zero_divisor Conc b = false
+zero_divisor Extr b = false
 
 -- what operands that keep their rule come to: nothing where the divisor is zero, else a number of k bits
 pub record HasResult (op : Operator) (k : ℕ) (a b c : Word) : Type 0 where
-  pub missing : zeroDivisor op b ≡ true → meaning op k a b c ≡ none
-  pub within : zeroDivisor op b ≡ false → (r : ℕ) × (meaning op k a b c ≡ some r) × (r < 2 ^ k)
+  pub missing : zero_divisor op b ≡ true → meaning op k a b c ≡ none
+  pub within : zero_divisor op b ≡ false → (r : ℕ) × (meaning op k a b c ≡ some r) × (r < 2 ^ k)
 
 -- "Every operator's result lies below 2 to its width", unless its divisor is zero
 abbrev pub ResultsFit : Type 0
 ResultsFit =
     (op : Operator) (k : ℕ) (a b c : Word)
-    → widthsHold op k a b c ≡ true
+    → widths_hold op k a b c ≡ true
     → typed op k a b c ≡ true
-    → operandsFit op a b c ≡ true
+    → operands_fit op a b c ≡ true
     → HasResult op k a b c
 
 -- the signed reading of a number of k bits lies from -2^(k-1) to 2^(k-1)-1, and is that number modulo 2^k
@@ -87,9 +87,9 @@ LargeAmounts = (k a n : ℕ) → 1 ≤ k → a < 2 ^ k → k ≤ n → ShiftedOu
 pub record CutTowardsZero (x y q : ℤ) : Type 0 where
   -- |q| times |y| is at most |x|, and |q| + 1 times |y| is above it
   pub reaches : nat_abs q * nat_abs y ≤ nat_abs x
-  pub next-exceeds : nat_abs x < suc (nat_abs q) * nat_abs y
+  pub next_exceeds : nat_abs x < suc (nat_abs q) * nat_abs y
   -- unless it is zero, q is positive where the signs agree and negative where they differ
-  pub sign-of-quotient : (q ≡ pos 0 → ⊥) → non_neg q ≡ beq (non_neg x) (non_neg y)
+  pub sign_of_quotient : (q ≡ pos 0 → ⊥) → non_neg q ≡ beq (non_neg x) (non_neg y)
 
 -- -2^(k-1) by -1: of signed integers of k bits the one quotient that leaves their range
 abbrev pub LeavesRange : ℕ → ℤ → ℤ → Type 0
@@ -98,12 +98,12 @@ LeavesRange k x y = (x ≡ neg_ℤ (pos (2 ^ (k - 1)))) × (y ≡ negsuc 0)
 -- q is the quotient and r the remainder of a by b, all of k bits and read as integers by `reading`
 pub record Divides (reading : ℕ → ℤ) (k a b q r : ℕ) : Type 0 where
   -- quotient times divisor plus remainder is the dividend, modulo 2^k
-  pub adds-up : computed Add k (computed Mul k q b) r ≡ a
+  pub adds_up : computed Add k (computed Mul k q b) r ≡ a
   -- the remainder is smaller in size than the divisor; "a nonzero remainder" has "the dividend's sign"
-  pub remainder-small : nat_abs (reading r) < nat_abs (reading b)
-  pub sign-of-remainder : (r ≡ 0 → ⊥) → non_neg (reading r) ≡ non_neg (reading a)
+  pub remainder_small : nat_abs (reading r) < nat_abs (reading b)
+  pub sign_of_remainder : (r ≡ 0 → ⊥) → non_neg (reading r) ≡ non_neg (reading a)
   -- "the quotient rounds towards zero for all signs, then modulo 2^K"
-  pub towards-zero : (LeavesRange k (reading a) (reading b) → ⊥) → CutTowardsZero (reading a) (reading b) (reading q)
+  pub towards_zero : (LeavesRange k (reading a) (reading b) → ⊥) → CutTowardsZero (reading a) (reading b) (reading q)
   pub wraps : LeavesRange k (reading a) (reading b) → q ≡ 2 ^ (k - 1)
 
 -- two operators give quotient and remainder for every divisor that is not zero

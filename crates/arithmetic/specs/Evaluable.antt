@@ -1,6 +1,6 @@
 -- The rule that an operator's operands keep, as plain facts: what an evaluation asks for.
 use Rattle.std.specs.Prelude.{ℕ, ◌+◌, ◌-◌, ◌^◌, ◌≤◌, ◌<◌, ◌≡◌}
-use Rattle.edition.specs.Edition.{maxWidth}
+use Rattle.edition.specs.Edition.{max_width}
 use Rattle.arithmetic.specs.declared.Operator.{Operator}
 use Rattle.arithmetic.specs.declared.Operator.TheVariants.{Combine, Not, Implies, Compare, Ite, Compute, Divide, Move, Trun, Extend, Conc, Extr}
 use Rattle.arithmetic.specs.declared.Word.{Word}
@@ -9,18 +9,18 @@ use Rattle.arithmetic.specs.Rules.{i1}
 -- "widths 1 to 64"
 pub record IsWidth (k : ℕ) : Type 0 where
   pub least : 1 ≤ k
-  pub most : k ≤ maxWidth
+  pub most : k ≤ max_width
 
 -- a number of k bits
 pub record NumberOfBits (k a : ℕ) : Type 0 where
   pub least : 1 ≤ k
-  pub most : k ≤ maxWidth
+  pub most : k ≤ max_width
   pub bound : a < 2 ^ k
 
 -- two numbers of k bits
 pub record NumbersOfBits (k a b : ℕ) : Type 0 where
   pub least : 1 ≤ k
-  pub most : k ≤ maxWidth
+  pub most : k ≤ max_width
   pub bound : a < 2 ^ k
   pub bound₂ : b < 2 ^ k
 
@@ -34,7 +34,7 @@ pub record Choice (k a b c : ℕ) : Type 0 where
 pub record Wider (x k a : ℕ) : Type 0 where
   pub least : 1 ≤ x
   pub wider : x < k
-  pub most : k ≤ maxWidth
+  pub most : k ≤ max_width
   pub bound : a < 2 ^ x
 
 -- numbers of x and of y bits, and k bits for both
@@ -42,7 +42,7 @@ pub record Joined (k x y a b : ℕ) : Type 0 where
   pub both : k ≡ x + y
   pub least : 1 ≤ x
   pub least₂ : 1 ≤ y
-  pub most : k ≤ maxWidth
+  pub most : k ≤ max_width
   pub bound : a < 2 ^ x
   pub bound₂ : b < 2 ^ y
 
@@ -51,7 +51,7 @@ pub record Cut (k n m : ℕ) : Type 0 where
   pub least : 1 ≤ k
   pub span : k ≡ m - n
   pub rising : n < m
-  pub most : m ≤ maxWidth
+  pub most : m ≤ max_width
 
 -- operands that can be evaluated, with a result of width k
 abbrev pub Evaluable : Operator → ℕ → Word → Word → Word → Type 0

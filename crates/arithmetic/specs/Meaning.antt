@@ -5,7 +5,7 @@ use Rattle.arithmetic.specs.declared.Operator.{Operator}
 use Rattle.arithmetic.specs.declared.Operator.TheVariants.{Combine, Not, Implies, Compare, Ite, Compute, Divide, Move, Trun, Extend, Conc, Extr}
 use Rattle.arithmetic.specs.declared.Bitwise.TheVariants.{Or}
 use Rattle.arithmetic.specs.declared.Word.{Word}
-use Rattle.arithmetic.specs.Rules.{widthsHold, typed}
+use Rattle.arithmetic.specs.Rules.{widths_hold, typed}
 use Rattle.arithmetic.specs.Bits.{combined, inverted}
 use Rattle.arithmetic.specs.Flags.{compared}
 use Rattle.arithmetic.specs.Arithmetic.{computed, divided, shifted, extended}
@@ -32,4 +32,4 @@ value_of Extr k a b c = some (a.value / 2 ^ b.value % 2 ^ (c.value - b.value))
 
 -- the meaning: missing where a width is none, where the operands break the type rule, and where a divisor is zero
 unfoldable pub meaning : Operator → ℕ → Word → Word → Word → Option ℕ
-meaning op k a b c = cond (widthsHold op k a b c && typed op k a b c) (value_of op k a b c) none
+meaning op k a b c = cond (widths_hold op k a b c && typed op k a b c) (value_of op k a b c) none

@@ -24,61 +24,61 @@ listed =
     ∷ Move Shl ∷ Move Ashr ∷ Move Lshr ∷ Trun ∷ Extend Sext ∷ Extend Zext ∷ Conc ∷ Extr ∷ []
 
 -- the operator of number n, from 0; any larger number is the last one's
-unfoldable pub operatorNumbered : ℕ → Operator
-operatorNumbered n = get_or listed n Extr
+unfoldable pub operator_numbered : ℕ → Operator
+operator_numbered n = get_or listed n Extr
 
 -- the number of an operator, by its kind
-unfoldable pub bitwiseNumber : Bitwise → ℕ
-bitwiseNumber And = 0
-bitwiseNumber Or = 1
-bitwiseNumber Xor = 2
+unfoldable pub bitwise_number : Bitwise → ℕ
+bitwise_number And = 0
+bitwise_number Or = 1
+bitwise_number Xor = 2
 
-unfoldable pub comparisonNumber : Comparison → ℕ
-comparisonNumber Equal = 5
-comparisonNumber NotEqual = 6
-comparisonNumber Ule = 7
-comparisonNumber Uge = 8
-comparisonNumber Ult = 9
-comparisonNumber Ugt = 10
-comparisonNumber Sle = 11
-comparisonNumber Sge = 12
-comparisonNumber Slt = 13
-comparisonNumber Sgt = 14
+unfoldable pub comparison_number : Comparison → ℕ
+comparison_number Equal = 5
+comparison_number NotEqual = 6
+comparison_number Ule = 7
+comparison_number Uge = 8
+comparison_number Ult = 9
+comparison_number Ugt = 10
+comparison_number Sle = 11
+comparison_number Sge = 12
+comparison_number Slt = 13
+comparison_number Sgt = 14
 
-unfoldable pub arithmeticNumber : Arithmetic → ℕ
-arithmeticNumber Add = 16
-arithmeticNumber Sub = 17
-arithmeticNumber Mul = 18
+unfoldable pub arithmetic_number : Arithmetic → ℕ
+arithmetic_number Add = 16
+arithmetic_number Sub = 17
+arithmetic_number Mul = 18
 
-unfoldable pub divisionNumber : Division → ℕ
-divisionNumber Udiv = 19
-divisionNumber Sdiv = 20
-divisionNumber Urem = 21
-divisionNumber Srem = 22
+unfoldable pub division_number : Division → ℕ
+division_number Udiv = 19
+division_number Sdiv = 20
+division_number Urem = 21
+division_number Srem = 22
 
-unfoldable pub shiftNumber : Shift → ℕ
-shiftNumber Shl = 23
-shiftNumber Ashr = 24
-shiftNumber Lshr = 25
+unfoldable pub shift_number : Shift → ℕ
+shift_number Shl = 23
+shift_number Ashr = 24
+shift_number Lshr = 25
 
-unfoldable pub extensionNumber : Extension → ℕ
-extensionNumber Sext = 27
-extensionNumber Zext = 28
+unfoldable pub extension_number : Extension → ℕ
+extension_number Sext = 27
+extension_number Zext = 28
 
-unfoldable pub operatorNumber : Operator → ℕ
-operatorNumber (Combine o) = bitwiseNumber o
-operatorNumber Not = 3
-operatorNumber Implies = 4
-operatorNumber (Compare o) = comparisonNumber o
-operatorNumber Ite = 15
-operatorNumber (Compute o) = arithmeticNumber o
-operatorNumber (Divide o) = divisionNumber o
-operatorNumber (Move o) = shiftNumber o
-operatorNumber Trun = 26
-operatorNumber (Extend o) = extensionNumber o
-operatorNumber Conc = 29
-operatorNumber Extr = 30
+unfoldable pub operator_number : Operator → ℕ
+operator_number (Combine o) = bitwise_number o
+operator_number Not = 3
+operator_number Implies = 4
+operator_number (Compare o) = comparison_number o
+operator_number Ite = 15
+operator_number (Compute o) = arithmetic_number o
+operator_number (Divide o) = division_number o
+operator_number (Move o) = shift_number o
+operator_number Trun = 26
+operator_number (Extend o) = extension_number o
+operator_number Conc = 29
+operator_number Extr = 30
 
 -- the number gives the operator back
 abbrev pub NumbersGiveBack : Type 0
-NumbersGiveBack = (op : Operator) → operatorNumbered (operatorNumber op) ≡ op
+NumbersGiveBack = (op : Operator) → operator_numbered (operator_number op) ≡ op

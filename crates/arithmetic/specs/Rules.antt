@@ -1,6 +1,6 @@
 -- The type rules of the operators: Booleans on widths, with nothing of meanings.
 use Rattle.std.specs.Prelude.{ℕ, ◌+◌, ◌-◌, ◌^◌, Bool, ◌&&◌, List, [], ◌∷◌, eqb, ltb, leb, take}
-use Rattle.edition.specs.Edition.{maxWidth, isWidth}
+use Rattle.edition.specs.Edition.{max_width, is_width}
 use Rattle.refusal.specs.Lists.{every}
 use Rattle.arithmetic.specs.declared.Operator.{Operator}
 use Rattle.arithmetic.specs.declared.Operator.TheVariants.{Combine, Not, Implies, Compare, Ite, Compute, Divide, Move, Trun, Extend, Conc, Extr}
@@ -22,24 +22,24 @@ arity Conc = 2
 arity Extr = 3
 
 -- the most operands that one takes
-abbrev pub maxOperands : ℕ
-maxOperands = 3
+abbrev pub max_operands : ℕ
+max_operands = 3
 
 -- the operands that an operator takes of three; it does not look at the others
-abbrev pub operandsTaken : Operator → Word → Word → Word → List Word
-operandsTaken op a b c = take (arity op) (a ∷ b ∷ c ∷ [])
+abbrev pub operands_taken : Operator → Word → Word → Word → List Word
+operands_taken op a b c = take (arity op) (a ∷ b ∷ c ∷ [])
 
 -- the width of the result and of each operand is a width
-unfoldable pub widthsHold : Operator → ℕ → Word → Word → Word → Bool
-widthsHold op k a b c = isWidth k && every (λ w. isWidth w.width) (operandsTaken op a b c)
+unfoldable pub widths_hold : Operator → ℕ → Word → Word → Word → Bool
+widths_hold op k a b c = is_width k && every (λ w. is_width w.width) (operands_taken op a b c)
 
 -- "All values are whole numbers from 0 to 2^K - 1"
 unfoldable pub fits : Word → Bool
 fits w = ltb w.value (2 ^ w.width)
 
 -- the value of each operand fits
-unfoldable pub operandsFit : Operator → Word → Word → Word → Bool
-operandsFit op a b c = every fits (operandsTaken op a b c)
+unfoldable pub operands_fit : Operator → Word → Word → Word → Bool
+operands_fit op a b c = every fits (operands_taken op a b c)
 
 -- the widths of the types i1 and i8
 abbrev pub i1 : ℕ
@@ -54,7 +54,7 @@ is k w = eqb w.width k
 
 -- "x+y at most 64", and the result as wide as both
 unfoldable pub joins : ℕ → ℕ → ℕ → Bool
-joins k x y = eqb k (x + y) && leb k maxWidth
+joins k x y = eqb k (x + y) && leb k max_width
 
 -- "0 <= n < m <= width of x", and the result m - n wide
 unfoldable pub cuts : ℕ → ℕ → ℕ → ℕ → Bool

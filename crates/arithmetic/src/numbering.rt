@@ -1,11 +1,11 @@
 // The operators by number, in the order in which the scope document lists their spellings.
 ghost use Rattle.std.specs.Prelude.{◌≡◌};
-ghost use Rattle.arithmetic.specs.Numbering.{operatorNumbered, operatorNumber, bitwiseNumber, comparisonNumber, arithmeticNumber, divisionNumber, shiftNumber, extensionNumber};
+ghost use Rattle.arithmetic.specs.Numbering.{operator_numbered, operator_number, bitwise_number, comparison_number, arithmetic_number, division_number, shift_number, extension_number};
 
 use super::{Arithmetic, Bitwise, Comparison, Division, Extension, Operator, Shift};
 
 fn bitwise_number(o: Bitwise) -> u64
-    ensures { result ≡ bitwiseNumber o }
+    ensures { result ≡ bitwise_number o }
 {
     match o {
         Bitwise::And => 0,
@@ -15,7 +15,7 @@ fn bitwise_number(o: Bitwise) -> u64
 }
 
 fn comparison_number(o: Comparison) -> u64
-    ensures { result ≡ comparisonNumber o }
+    ensures { result ≡ comparison_number o }
 {
     match o {
         Comparison::Equal => 5,
@@ -32,7 +32,7 @@ fn comparison_number(o: Comparison) -> u64
 }
 
 fn arithmetic_number(o: Arithmetic) -> u64
-    ensures { result ≡ arithmeticNumber o }
+    ensures { result ≡ arithmetic_number o }
 {
     match o {
         Arithmetic::Add => 16,
@@ -42,7 +42,7 @@ fn arithmetic_number(o: Arithmetic) -> u64
 }
 
 fn division_number(o: Division) -> u64
-    ensures { result ≡ divisionNumber o }
+    ensures { result ≡ division_number o }
 {
     match o {
         Division::Udiv => 19,
@@ -53,7 +53,7 @@ fn division_number(o: Division) -> u64
 }
 
 fn shift_number(o: Shift) -> u64
-    ensures { result ≡ shiftNumber o }
+    ensures { result ≡ shift_number o }
 {
     match o {
         Shift::Shl => 23,
@@ -63,7 +63,7 @@ fn shift_number(o: Shift) -> u64
 }
 
 fn extension_number(o: Extension) -> u64
-    ensures { result ≡ extensionNumber o }
+    ensures { result ≡ extension_number o }
 {
     match o {
         Extension::Sext => 27,
@@ -73,7 +73,7 @@ fn extension_number(o: Extension) -> u64
 
 // The number of an operator.
 pub fn operator_number(op: Operator) -> u64
-    ensures { result ≡ operatorNumber op }
+    ensures { result ≡ operator_number op }
 {
     match op {
         Operator::Combine(o) => bitwise_number(o),
@@ -93,7 +93,7 @@ pub fn operator_number(op: Operator) -> u64
 
 // The operator of a number; any above the last is the last one's.
 pub fn operator_numbered(n: u64) -> Operator
-    ensures { result ≡ operatorNumbered n }
+    ensures { result ≡ operator_numbered n }
 {
     match n {
         0 => Operator::Combine(Bitwise::And),

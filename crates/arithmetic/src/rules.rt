@@ -1,6 +1,6 @@
 // The tests of an operator's operands.
 ghost use Rattle.std.specs.Prelude.{◌≡◌, ◌&&◌, ◌||◌, ◌%◌, ◌^◌, ltb};
-ghost use Rattle.arithmetic.specs.Rules.{arity as arityOf, widthsHold, fits as fitsIn, operandsFit, joins as joinsIn, cuts as cutsIn, typed as typedBy};
+ghost use Rattle.arithmetic.specs.Rules.{arity as arityOf, widths_hold, fits as fitsIn, operands_fit, joins as joinsIn, cuts as cutsIn, typed as typedBy};
 
 use super::{Operator, Word};
 use edition::{Edition, WORD_BITS};
@@ -39,7 +39,7 @@ fn taken(n: usize, a: bool, b: bool, c: bool) -> bool
 
 // Whether the result and the operands that the operator takes have widths.
 pub fn widths_hold(op: Operator, k: u64, a: Word, b: Word, c: Word) -> bool
-    ensures { result ≡ widthsHold op k a b c }
+    ensures { result ≡ widths_hold op k a b c }
 {
     let x = Edition::is_width(a.width);
     let y = Edition::is_width(b.width);
@@ -67,7 +67,7 @@ pub fn reduced(k: u64, x: u64) -> u64
 
 // Whether the operands that the operator takes fit their widths.
 pub fn operands_fit(op: Operator, a: Word, b: Word, c: Word) -> bool
-    ensures { result ≡ operandsFit op a b c }
+    ensures { result ≡ operands_fit op a b c }
 {
     taken(arity(op), fits(a), fits(b), fits(c))
 }

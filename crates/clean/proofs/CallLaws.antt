@@ -6,17 +6,17 @@ use lib.ListN.{length}
 use Rattle.refusal.specs.declared.Refusal.{Refusal}
 use Rattle.refusal.specs.Result.{accepted, refused}
 use Rattle.constraint.specs.File.{File}
-use Rattle.constraint.specs.Read.{readFile}
+use Rattle.constraint.specs.Read.{read_file}
 use Rattle.printing.specs.declared.WriteReply.TheVariants.{Refused}
 use Rattle.printing.specs.Output.{WriteOutcome, room_for, written}
-use Rattle.clean_text.specs.Text.{cleanText}
-use Rattle.clean.specs.Clean.{cleaning, cleanOutcome}
+use Rattle.clean_text.specs.Text.{clean_text}
+use Rattle.clean.specs.Clean.{cleaning, clean_outcome}
 
 module _ (constraint output : List ℕ) where
-  pub cleaning-refused : (r : Refusal) → refused r ≡ readFile constraint → ◌≡◌ {A = WriteOutcome} (record { reply = Refused r; output = output }) (cleanOutcome constraint output)
+  pub cleaning_refused : (r : Refusal) → refused r ≡ read_file constraint → ◌≡◌ {A = WriteOutcome} (record { reply = Refused r; output = output }) (clean_outcome constraint output)
   unfolding cleaning
-  cleaning-refused r e = rw (← e)
+  cleaning_refused r e = rw (← e)
 
-  pub cleaning-text : (f : File) → accepted f ≡ readFile constraint → written output (room_for (cleanText f) (length output)) ≡ cleanOutcome constraint output
+  pub cleaning_text : (f : File) → accepted f ≡ read_file constraint → written output (room_for (clean_text f) (length output)) ≡ clean_outcome constraint output
   unfolding cleaning
-  cleaning-text f e = rw (← e)
+  cleaning_text f e = rw (← e)

@@ -9,98 +9,98 @@ use lib.ListN.{length, take, drop, length-append}
 use borrow.Author.Tests.{eq-eqb, ne_eqb, lt-ltb, le-ltb, leb-true, leb-false}
 use Rattle.refusal.specs.SubjectWords.{ascii}
 use Rattle.constraint.specs.File.{Variable, name_at}
-use Rattle.store.specs.Tables.{variableMark, nameStart, nameLength, wordWidth, variableOf, headWidth, operandOf}
+use Rattle.store.specs.Tables.{variable_mark, name_start, name_length, word_width, variable_of, head_width, operand_of}
 use Rattle.printing.specs.Digits.{digits}
 use Rattle.printing.specs.Room.{Put}
-use Rattle.printing.proofs.PlaceLaws.{put-none, put_then}
-use Rattle.clean_text.specs.Text.{typeText, declarationText, constantText, operandTokens, spaced}
-use Rattle.clean.proofs.JoinedLaws.{spaced-one}
+use Rattle.printing.proofs.PlaceLaws.{put_none, put_then}
+use Rattle.clean_text.specs.Text.{type_text, declaration_text, constant_text, operand_tokens, spaced}
+use Rattle.clean.proofs.JoinedLaws.{spaced_one}
 
 -- ---- a type
 module _ (k : ℕ) where
-  pub type-length : length (typeText k) ≡ 2 + length (digits k)
-  unfolding typeText
-  type-length = omega arith
+  pub type_length : length (type_text k) ≡ 2 + length (digits k)
+  unfolding type_text
+  type_length = omega arith
 
-  pub put-type : {room : List ℕ} {at : ℕ} → at + length (typeText k) ≤ length room
-      → {end end' : ℕ} {room' room'' : List ℕ} → Put (ascii ":i") room at end room' → Put (digits k) room' end end' room'' → Put (typeText k) room at end' room''
-  unfolding typeText
-  put-type h p q = put_then h p q
+  pub put_type : {room : List ℕ} {at : ℕ} → at + length (type_text k) ≤ length room
+      → {end end' : ℕ} {room' room'' : List ℕ} → Put (ascii ":i") room at end room' → Put (digits k) room' end end' room'' → Put (type_text k) room at end' room''
+  unfolding type_text
+  put_type h p q = put_then h p q
 
 -- ---- a declaration, behind a space
 module _ (file : List ℕ) (word : ℕ) where
   abbrev name : List ℕ
-  name = take (nameLength word) (drop (nameStart word) file)
+  name = take (name_length word) (drop (name_start word) file)
 
   abbrev text : List ℕ
-  text = ascii " " ++ declarationText (variableOf file word)
+  text = ascii " " ++ declaration_text (variable_of file word)
 
-  pub declaration-length : length text ≡ 1 + length name + length (typeText (wordWidth word))
-  unfolding declarationText variableOf
-  declaration-length = omega (arith, length-append name (typeText (wordWidth word)))
+  pub declaration_length : length text ≡ 1 + length name + length (type_text (word_width word))
+  unfolding declaration_text variable_of
+  declaration_length = omega (arith, length-append name (type_text (word_width word)))
 
-  pub put-declaration : {room : List ℕ} {at : ℕ} → at + length text ≤ length room
+  pub put_declaration : {room : List ℕ} {at : ℕ} → at + length text ≤ length room
       → {end₁ end₂ end₃ : ℕ} {room₁ room₂ room₃ : List ℕ}
-      → Put (ascii " ") room at end₁ room₁ → Put name room₁ end₁ end₂ room₂ → Put (typeText (wordWidth word)) room₂ end₂ end₃ room₃
+      → Put (ascii " ") room at end₁ room₁ → Put name room₁ end₁ end₂ room₂ → Put (type_text (word_width word)) room₂ end₂ end₃ room₃
       → Put text room at end₃ room₃
-  unfolding declarationText variableOf
-  put-declaration h p q r = let l = declaration-length in put_then h (put_then (omega arith) p q) r
+  unfolding declaration_text variable_of
+  put_declaration h p q r = let l = declaration_length in put_then h (put_then (omega arith) p q) r
 
 -- ---- an operand, behind a space if it is there
 module _ (xs : List Variable) where
-  abbrev operandText : ℕ → ℕ → List ℕ
-  operandText head body = spaced (operandTokens xs (operandOf head body))
+  abbrev operand_text : ℕ → ℕ → List ℕ
+  operand_text head body = spaced (operand_tokens xs (operand_of head body))
 
   module _ (head body : ℕ) where
-    pub put-absent : head ≡ 0 → (room : List ℕ) (at : ℕ) → Put (operandText head body) room at at room
-    unfolding operandOf operandTokens spaced flat_map
-    put-absent e room at = rw (eq-eqb head 0 e) (put-none room at)
+    pub put_absent : head ≡ 0 → (room : List ℕ) (at : ℕ) → Put (operand_text head body) room at at room
+    unfolding operand_of operand_tokens spaced flat_map
+    put_absent e room at = rw (eq-eqb head 0 e) (put_none room at)
 
     module _ (h : ¬ (head ≡ 0)) where
       -- a variable's name
-      module _ (k : leb variableMark head ≡ true) where
-        named-text : operandText head body ≡ ascii " " ++ name_at xs body
-        unfolding operandOf operandTokens
-        named-text = rw (ne_eqb head 0 h, le-ltb head variableMark (leb-true variableMark head k)) (spaced-one (name_at xs body))
+      module _ (k : leb variable_mark head ≡ true) where
+        named_text : operand_text head body ≡ ascii " " ++ name_at xs body
+        unfolding operand_of operand_tokens
+        named_text = rw (ne_eqb head 0 h, le-ltb head variable_mark (leb-true variable_mark head k)) (spaced_one (name_at xs body))
 
-        pub named-length : length (operandText head body) ≡ 1 + length (name_at xs body)
-        named-length = ap length named-text ∙ omega arith
+        pub named_length : length (operand_text head body) ≡ 1 + length (name_at xs body)
+        named_length = ap length named_text ∙ omega arith
 
-        pub put-named : {room : List ℕ} {at : ℕ} → at + length (operandText head body) ≤ length room
-            → {end end' : ℕ} {room' room'' : List ℕ} → Put (ascii " ") room at end room' → Put (name_at xs body) room' end end' room'' → Put (operandText head body) room at end' room''
-        put-named r p q = rw named-text (put_then (rw named-text at r) p q)
+        pub put_named : {room : List ℕ} {at : ℕ} → at + length (operand_text head body) ≤ length room
+            → {end end' : ℕ} {room' room'' : List ℕ} → Put (ascii " ") room at end room' → Put (name_at xs body) room' end end' room'' → Put (operand_text head body) room at end' room''
+        put_named r p q = rw named_text (put_then (rw named_text at r) p q)
 
       -- a constant
-      module _ (k : leb variableMark head ≡ false) where
-        constant-text : operandText head body ≡ ascii " " ++ digits body ++ typeText (headWidth head)
-        unfolding operandOf operandTokens constantText headWidth
-        constant-text =
-            let l : head < variableMark = leb-false variableMark head k in
-            let e : head % variableMark ≡ head = omega arith in
-            rw (ne_eqb head 0 h, lt-ltb head variableMark l, e) (spaced-one (digits body ++ typeText head))
+      module _ (k : leb variable_mark head ≡ false) where
+        constant_text_lem : operand_text head body ≡ ascii " " ++ digits body ++ type_text (head_width head)
+        unfolding operand_of operand_tokens constant_text head_width
+        constant_text_lem =
+            let l : head < variable_mark = leb-false variable_mark head k in
+            let e : head % variable_mark ≡ head = omega arith in
+            rw (ne_eqb head 0 h, lt-ltb head variable_mark l, e) (spaced_one (digits body ++ type_text head))
 
-        pub constant-length : length (operandText head body) ≡ 1 + length (digits body) + length (typeText (headWidth head))
-        constant-length = ap length constant-text ∙ omega (arith, length-append (digits body) (typeText (headWidth head)))
+        pub constant_length : length (operand_text head body) ≡ 1 + length (digits body) + length (type_text (head_width head))
+        constant_length = ap length constant_text_lem ∙ omega (arith, length-append (digits body) (type_text (head_width head)))
 
-        pub put-constant : {room : List ℕ} {at : ℕ} → at + length (operandText head body) ≤ length room
+        pub put_constant : {room : List ℕ} {at : ℕ} → at + length (operand_text head body) ≤ length room
             → {end₁ end₂ end₃ : ℕ} {room₁ room₂ room₃ : List ℕ}
-            → Put (ascii " ") room at end₁ room₁ → Put (digits body) room₁ end₁ end₂ room₂ → Put (typeText (headWidth head)) room₂ end₂ end₃ room₃
-            → Put (operandText head body) room at end₃ room₃
-        put-constant r p q t = rw constant-text (put_then (rw constant-text at r) (put_then (omega (arith, constant-length)) p q) t)
+            → Put (ascii " ") room at end₁ room₁ → Put (digits body) room₁ end₁ end₂ room₂ → Put (type_text (head_width head)) room₂ end₂ end₃ room₃
+            → Put (operand_text head body) room at end₃ room₃
+        put_constant r p q t = rw constant_text_lem (put_then (rw constant_text_lem at r) (put_then (omega (arith, constant_length)) p q) t)
 
       -- the space at least
-      pub operand-some : 1 ≤ length (operandText head body)
-      operand-some = go (leb variableMark head) refl
+      pub operand_some : 1 ≤ length (operand_text head body)
+      operand_some = go (leb variable_mark head) refl
         where
-          go : (b : Bool) → leb variableMark head ≡ b → 1 ≤ length (operandText head body)
-          go true k = omega (arith, named-length k)
-          go false k = omega (arith, constant-length k)
+          go : (b : Bool) → leb variable_mark head ≡ b → 1 ≤ length (operand_text head body)
+          go true k = omega (arith, named_length k)
+          go false k = omega (arith, constant_length k)
 
 -- ---- an operator, behind a space
 module _ (s : List ℕ) where
-  pub operator-length : length (spaced (s ∷ [])) ≡ 1 + length s
-  operator-length = ap length (spaced-one s) ∙ omega arith
+  pub operator_length : length (spaced (s ∷ [])) ≡ 1 + length s
+  operator_length = ap length (spaced_one s) ∙ omega arith
 
-  pub put-operator : {room : List ℕ} {at : ℕ} → at + length (spaced (s ∷ [])) ≤ length room
+  pub put_operator : {room : List ℕ} {at : ℕ} → at + length (spaced (s ∷ [])) ≤ length room
       → {end end' : ℕ} {room' room'' : List ℕ} → Put (ascii " ") room at end room' → Put s room' end end' room'' → Put (spaced (s ∷ [])) room at end' room''
-  put-operator r p q = rw (spaced-one s) (put_then (rw (spaced-one s) at r) p q)
+  put_operator r p q = rw (spaced_one s) (put_then (rw (spaced_one s) at r) p q)

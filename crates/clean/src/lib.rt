@@ -1,12 +1,12 @@
 // The clean spelling of a constraint file.
 ghost use Rattle.std.specs.Prelude.{◌≡◌, ◌≤◌, length};
-ghost use Rattle.edition.specs.Edition.{maxFileBytes};
+ghost use Rattle.edition.specs.Edition.{max_file_bytes};
 ghost use Rattle.store.specs.Tables.{store_of, StoreSized};
-ghost use Rattle.store.specs.Progress.{storedFile, InTables};
+ghost use Rattle.store.specs.Progress.{stored_file, InTables};
 ghost use Rattle.printing.specs.Room.{Put};
 ghost use Rattle.printing.specs.Output.{room_for, written};
-ghost use Rattle.clean_text.specs.Text.{cleanText};
-ghost use Rattle.clean.specs.Clean.{cleanOutcome};
+ghost use Rattle.clean_text.specs.Text.{clean_text};
+ghost use Rattle.clean.specs.Clean.{clean_outcome};
 ghost use Rattle.clean.specs.Widths.{ShortWidths};
 
 use edition::Edition;
@@ -31,8 +31,8 @@ fn put_clean<'a>(
     p: Progress,
     room: &mut [u8],
 ) -> usize
-    requires { StoreSized (store_of variables.now heads.now bodies.now) × InTables p × ShortWidths (store_of variables.now heads.now bodies.now) p × (length (cleanText (storedFile file.now (store_of variables.now heads.now bodies.now) p)) ≤ length room.old) }
-    ensures { Put (cleanText (storedFile file.now (store_of variables.now heads.now bodies.now) p)) room.old 0 result room.new }
+    requires { StoreSized (store_of variables.now heads.now bodies.now) × InTables p × ShortWidths (store_of variables.now heads.now bodies.now) p × (length (clean_text (stored_file file.now (store_of variables.now heads.now bodies.now) p)) ≤ length room.old) }
+    ensures { Put (clean_text (stored_file file.now (store_of variables.now heads.now bodies.now) p)) room.old 0 result room.new }
 {
     let n = p.variables;
     let m = p.lines;
@@ -53,8 +53,8 @@ fn clean_short<'a>(
     p: Progress,
     output: &mut [u8],
 ) -> WriteReply
-    requires { StoreSized (store_of variables.now heads.now bodies.now) × InTables p × ShortWidths (store_of variables.now heads.now bodies.now) p × (length (cleanText (storedFile file.now (store_of variables.now heads.now bodies.now) p)) ≤ maxFileBytes) }
-    ensures { record { reply = result; output = output.new } ≡ written output.old (room_for (cleanText (storedFile file.now (store_of variables.now heads.now bodies.now) p)) (length output.old)) }
+    requires { StoreSized (store_of variables.now heads.now bodies.now) × InTables p × ShortWidths (store_of variables.now heads.now bodies.now) p × (length (clean_text (stored_file file.now (store_of variables.now heads.now bodies.now) p)) ≤ max_file_bytes) }
+    ensures { record { reply = result; output = output.new } ≡ written output.old (room_for (clean_text (stored_file file.now (store_of variables.now heads.now bodies.now) p)) (length output.old)) }
 {
     let mut text = [0u8; Edition::FILE_BYTES];
     let length = put_clean(file, variables, heads, bodies, p, &mut text);
@@ -67,7 +67,7 @@ fn clean_short<'a>(
 
 // Writes the clean spelling of a constraint file, any bytes. The text is never longer than the file, so a room as long as the file needs no measure.
 pub fn clean(constraint: &[u8], output: &mut [u8]) -> WriteReply
-    ensures { record { reply = result; output = output.new } ≡ cleanOutcome constraint.now output.old }
+    ensures { record { reply = result; output = output.new } ≡ clean_outcome constraint.now output.old }
 {
     let mut variables = [0u64; Edition::VARIABLES];
     let mut heads = [0u8; TABLE_HEADS];

@@ -1,13 +1,13 @@
 // The lines of a clean text, put into a room; all but the first with the LF in front of them.
 ghost use Rattle.std.specs.Prelude.{◌≡◌, [], ◌∷◌, ◌++◌, map, ℕ, ◌+◌, ◌≤◌, ◌<◌, length};
 ghost use Rattle.std.proofs.Math.Option.{get_or};
-ghost use Rattle.edition.specs.Edition.{edition10, maxVariables, maxLines};
+ghost use Rattle.edition.specs.Edition.{edition10, max_variables, max_lines};
 ghost use Rattle.refusal.specs.SubjectWords.{ascii};
-ghost use Rattle.store.specs.Tables.{lineBodies, tableHeads, tableBodies, variablesIn, operandOf, operandIn, lineIn, linesIn};
-ghost use Rattle.store.specs.Progress.{versionRead, expectationRead};
+ghost use Rattle.store.specs.Tables.{line_bodies, table_heads, table_bodies, variables_in, operand_of, operand_in, line_in, lines_in};
+ghost use Rattle.store.specs.Progress.{version_read, expectation_read};
 ghost use Rattle.printing.specs.Room.{Put};
-ghost use Rattle.clean_text.specs.Text.{declarationText, operandTokens, spaced, versionLine, expectationLines, declarationLines, statementLetter, operandsTokens, statementLine, statementLines, fed};
-ghost use Rattle.clean.specs.Front.{frontText};
+ghost use Rattle.clean_text.specs.Text.{declaration_text, operand_tokens, spaced, version_line, expectation_lines, declaration_lines, statement_letter, operands_tokens, statement_line, statement_lines, fed};
+ghost use Rattle.clean.specs.Front.{front_text};
 ghost use Rattle.clean.specs.Widths.{ShortVariables, ShortHeads};
 
 use super::tokens::{put_declaration, put_operand, put_operator};
@@ -20,7 +20,7 @@ use store::{Expectation, Version};
 
 // The edition that a file is read by: 1.0 where there is no version.
 pub(crate) fn edition_of(version: Version) -> Edition
-    ensures { result ≡ get_or (versionRead version) edition10 }
+    ensures { result ≡ get_or (version_read version) edition10 }
 {
     match version {
         Version::NoVersion => Edition::v1_0(),
@@ -29,8 +29,8 @@ pub(crate) fn edition_of(version: Version) -> Edition
 }
 
 pub(crate) fn put_version(e: Edition, room: &mut [u8], at: usize) -> usize
-    requires { at + length (versionLine e) ≤ length room.old }
-    ensures { Put (versionLine e) room.old at result room.new }
+    requires { at + length (version_line e) ≤ length room.old }
+    ensures { Put (version_line e) room.old at result room.new }
 {
     let major = put_bytes(b"v ", room, at);
     let dot = put_digits(e.major, room, major);
@@ -39,8 +39,8 @@ pub(crate) fn put_version(e: Edition, room: &mut [u8], at: usize) -> usize
 }
 
 pub(crate) fn put_expectation(expectation: Expectation, room: &mut [u8], at: usize) -> usize
-    requires { at + length (fed (expectationLines (expectationRead expectation))) ≤ length room.old }
-    ensures { Put (fed (expectationLines (expectationRead expectation))) room.old at result room.new }
+    requires { at + length (fed (expectation_lines (expectation_read expectation))) ≤ length room.old }
+    ensures { Put (fed (expectation_lines (expectation_read expectation))) room.old at result room.new }
 {
     match expectation {
         Expectation::NoExpectation => at,
@@ -59,8 +59,8 @@ fn put_all_declared(
     room: &mut [u8],
     at: usize,
 ) -> usize
-    requires { (n ≤ maxVariables) × ShortVariables variables.now n × (at + length (spaced (map declarationText (variablesIn file.now variables.now n))) ≤ length room.old) }
-    ensures { Put (spaced (map declarationText (variablesIn file.now variables.now n))) room.old at result room.new }
+    requires { (n ≤ max_variables) × ShortVariables variables.now n × (at + length (spaced (map declaration_text (variables_in file.now variables.now n))) ≤ length room.old) }
+    ensures { Put (spaced (map declaration_text (variables_in file.now variables.now n))) room.old at result room.new }
 {
     let mut i = 0;
     let mut end = at;
@@ -79,8 +79,8 @@ pub(crate) fn put_declarations(
     room: &mut [u8],
     at: usize,
 ) -> usize
-    requires { (n ≤ maxVariables) × ShortVariables variables.now n × (at + length (fed (declarationLines (variablesIn file.now variables.now n))) ≤ length room.old) }
-    ensures { Put (fed (declarationLines (variablesIn file.now variables.now n))) room.old at result room.new }
+    requires { (n ≤ max_variables) × ShortVariables variables.now n × (at + length (fed (declaration_lines (variables_in file.now variables.now n))) ≤ length room.old) }
+    ensures { Put (fed (declaration_lines (variables_in file.now variables.now n))) room.old at result room.new }
 {
     if n == 0 {
         return at;
@@ -91,7 +91,7 @@ pub(crate) fn put_declarations(
 
 // The letter of a line, by the head of its output.
 fn letter_of(head: u8) -> u8
-    ensures { (body : ℕ) → statementLetter (operandOf head body) ≡ result ∷ [] }
+    ensures { (body : ℕ) → statement_letter (operand_of head body) ≡ result ∷ [] }
 {
     if head == ABSENT { b'p' } else { b'c' }
 }
@@ -108,8 +108,8 @@ fn put_slot<'a>(
     room: &mut [u8],
     at: usize,
 ) -> usize
-    requires { (n ≤ maxVariables) × (length heads.now ≡ tableHeads) × (length bodies.now ≡ tableBodies) × (k < maxLines) × (slot < lineBodies) × ShortHeads heads.now k × (at + length (spaced (operandTokens (variablesIn file.now variables.now n) (operandIn heads.now bodies.now k slot))) ≤ length room.old) }
-    ensures { Put (spaced (operandTokens (variablesIn file.now variables.now n) (operandIn heads.now bodies.now k slot))) room.old at result room.new }
+    requires { (n ≤ max_variables) × (length heads.now ≡ table_heads) × (length bodies.now ≡ table_bodies) × (k < max_lines) × (slot < line_bodies) × ShortHeads heads.now k × (at + length (spaced (operand_tokens (variables_in file.now variables.now n) (operand_in heads.now bodies.now k slot))) ≤ length room.old) }
+    ensures { Put (spaced (operand_tokens (variables_in file.now variables.now n) (operand_in heads.now bodies.now k slot))) room.old at result room.new }
 {
     let head = head_of(heads, k, slot);
     let body = body_of(bodies, k, slot);
@@ -127,8 +127,8 @@ fn put_front<'a>(
     room: &mut [u8],
     at: usize,
 ) -> usize
-    requires { (n ≤ maxVariables) × (length heads.now ≡ tableHeads) × (length bodies.now ≡ tableBodies) × (k < maxLines) × ShortHeads heads.now k × (at + length (ascii "\n" ++ frontText edition10 (variablesIn file.now variables.now n) (lineIn heads.now bodies.now k)) ≤ length room.old) }
-    ensures { Put (ascii "\n" ++ frontText edition10 (variablesIn file.now variables.now n) (lineIn heads.now bodies.now k)) room.old at result room.new }
+    requires { (n ≤ max_variables) × (length heads.now ≡ table_heads) × (length bodies.now ≡ table_bodies) × (k < max_lines) × ShortHeads heads.now k × (at + length (ascii "\n" ++ front_text edition10 (variables_in file.now variables.now n) (line_in heads.now bodies.now k)) ≤ length room.old) }
+    ensures { Put (ascii "\n" ++ front_text edition10 (variables_in file.now variables.now n) (line_in heads.now bodies.now k)) room.old at result room.new }
 {
     let letter = put_byte(b'\n', room, at);
     let output = put_byte(letter_of(head_of(heads, k, OUTPUT)), room, letter);
@@ -147,8 +147,8 @@ fn put_operands<'a>(
     room: &mut [u8],
     at: usize,
 ) -> usize
-    requires { (n ≤ maxVariables) × (length heads.now ≡ tableHeads) × (length bodies.now ≡ tableBodies) × (k < maxLines) × ShortHeads heads.now k × (at + length (spaced (operandsTokens (variablesIn file.now variables.now n) (lineIn heads.now bodies.now k).operands)) ≤ length room.old) }
-    ensures { Put (spaced (operandsTokens (variablesIn file.now variables.now n) (lineIn heads.now bodies.now k).operands)) room.old at result room.new }
+    requires { (n ≤ max_variables) × (length heads.now ≡ table_heads) × (length bodies.now ≡ table_bodies) × (k < max_lines) × ShortHeads heads.now k × (at + length (spaced (operands_tokens (variables_in file.now variables.now n) (line_in heads.now bodies.now k).operands)) ≤ length room.old) }
+    ensures { Put (spaced (operands_tokens (variables_in file.now variables.now n) (line_in heads.now bodies.now k).operands)) room.old at result room.new }
 {
     let second = put_slot(file, variables, n, heads, bodies, k, FIRST, room, at);
     let third = put_slot(file, variables, n, heads, bodies, k, SECOND, room, second);
@@ -166,8 +166,8 @@ fn put_statement<'a>(
     room: &mut [u8],
     at: usize,
 ) -> usize
-    requires { (n ≤ maxVariables) × (length heads.now ≡ tableHeads) × (length bodies.now ≡ tableBodies) × (k < maxLines) × ShortHeads heads.now k × (at + length (ascii "\n" ++ statementLine edition10 (variablesIn file.now variables.now n) (lineIn heads.now bodies.now k)) ≤ length room.old) }
-    ensures { Put (ascii "\n" ++ statementLine edition10 (variablesIn file.now variables.now n) (lineIn heads.now bodies.now k)) room.old at result room.new }
+    requires { (n ≤ max_variables) × (length heads.now ≡ table_heads) × (length bodies.now ≡ table_bodies) × (k < max_lines) × ShortHeads heads.now k × (at + length (ascii "\n" ++ statement_line edition10 (variables_in file.now variables.now n) (line_in heads.now bodies.now k)) ≤ length room.old) }
+    ensures { Put (ascii "\n" ++ statement_line edition10 (variables_in file.now variables.now n) (line_in heads.now bodies.now k)) room.old at result room.new }
 {
     let operands = put_front(file, variables, n, heads, bodies, k, room, at);
     put_operands(file, variables, n, heads, bodies, k, room, operands)
@@ -184,8 +184,8 @@ pub(crate) fn put_statements<'a>(
     room: &mut [u8],
     at: usize,
 ) -> usize
-    requires { (n ≤ maxVariables) × (length heads.now ≡ tableHeads) × (length bodies.now ≡ tableBodies) × (m ≤ maxLines) × ((k : ℕ) → k < m → ShortHeads heads.now k) × (at + length (fed (statementLines edition10 (variablesIn file.now variables.now n) (linesIn heads.now bodies.now m))) ≤ length room.old) }
-    ensures { Put (fed (statementLines edition10 (variablesIn file.now variables.now n) (linesIn heads.now bodies.now m))) room.old at result room.new }
+    requires { (n ≤ max_variables) × (length heads.now ≡ table_heads) × (length bodies.now ≡ table_bodies) × (m ≤ max_lines) × ((k : ℕ) → k < m → ShortHeads heads.now k) × (at + length (fed (statement_lines edition10 (variables_in file.now variables.now n) (lines_in heads.now bodies.now m))) ≤ length room.old) }
+    ensures { Put (fed (statement_lines edition10 (variables_in file.now variables.now n) (lines_in heads.now bodies.now m))) room.old at result room.new }
 {
     let mut k = 0;
     let mut end = at;

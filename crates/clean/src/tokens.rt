@@ -1,12 +1,12 @@
 // The tokens of a clean text, put into a room; operators and operands with the space in front of them.
 ghost use Rattle.std.specs.Prelude.{[], ◌∷◌, ◌++◌, ◌+◌, ◌≤◌, length};
-ghost use Rattle.edition.specs.Edition.{edition10, maxVariables};
+ghost use Rattle.edition.specs.Edition.{edition10, max_variables};
 ghost use Rattle.refusal.specs.SubjectWords.{ascii};
-ghost use Rattle.spelling.specs.Operators.{spellingOf};
+ghost use Rattle.spelling.specs.Operators.{spelling_of};
 ghost use Rattle.constraint.specs.File.{name_at};
-ghost use Rattle.store.specs.Tables.{wordWidth, headWidth, variableOf, variablesIn, operandOf};
+ghost use Rattle.store.specs.Tables.{word_width, head_width, variable_of, variables_in, operand_of};
 ghost use Rattle.printing.specs.Room.{Put};
-ghost use Rattle.clean_text.specs.Text.{typeText, declarationText, operandTokens, spaced};
+ghost use Rattle.clean_text.specs.Text.{type_text, declaration_text, operand_tokens, spaced};
 ghost use Rattle.clean.specs.Widths.{ShortWidth};
 
 use arithmetic::Operator;
@@ -19,8 +19,8 @@ use store::variables::{name_length, name_start, word_width};
 
 // `:iK`
 fn put_type(width: u64, room: &mut [u8], at: usize) -> usize
-    requires { ShortWidth width × (at + length (typeText width) ≤ length room.old) }
-    ensures { Put (typeText width) room.old at result room.new }
+    requires { ShortWidth width × (at + length (type_text width) ≤ length room.old) }
+    ensures { Put (type_text width) room.old at result room.new }
 {
     let digits = put_bytes(b":i", room, at);
     put_below_hundred(width, room, digits)
@@ -28,8 +28,8 @@ fn put_type(width: u64, room: &mut [u8], at: usize) -> usize
 
 // ` name:iK`, for the variable of a word.
 pub(crate) fn put_declaration(file: &[u8], word: u64, room: &mut [u8], at: usize) -> usize
-    requires { ShortWidth (wordWidth word) × (at + length (ascii " " ++ declarationText (variableOf file.now word)) ≤ length room.old) }
-    ensures { Put (ascii " " ++ declarationText (variableOf file.now word)) room.old at result room.new }
+    requires { ShortWidth (word_width word) × (at + length (ascii " " ++ declaration_text (variable_of file.now word)) ≤ length room.old) }
+    ensures { Put (ascii " " ++ declaration_text (variable_of file.now word)) room.old at result room.new }
 {
     let name = put_byte(b' ', room, at);
     let width = put_part(file, name_start(word), name_length(word), room, name);
@@ -45,8 +45,8 @@ fn put_name(
     room: &mut [u8],
     at: usize,
 ) -> usize
-    requires { (n ≤ maxVariables) × (at + length (name_at (variablesIn file.now variables.now n) i) ≤ length room.old) }
-    ensures { Put (name_at (variablesIn file.now variables.now n) i) room.old at result room.new }
+    requires { (n ≤ max_variables) × (at + length (name_at (variables_in file.now variables.now n) i) ≤ length room.old) }
+    ensures { Put (name_at (variables_in file.now variables.now n) i) room.old at result room.new }
 {
     let k = i as usize;
     if k < n {
@@ -67,8 +67,8 @@ pub(crate) fn put_operand(
     room: &mut [u8],
     at: usize,
 ) -> usize
-    requires { (n ≤ maxVariables) × ShortWidth (headWidth head) × (at + length (spaced (operandTokens (variablesIn file.now variables.now n) (operandOf head body))) ≤ length room.old) }
-    ensures { Put (spaced (operandTokens (variablesIn file.now variables.now n) (operandOf head body))) room.old at result room.new }
+    requires { (n ≤ max_variables) × ShortWidth (head_width head) × (at + length (spaced (operand_tokens (variables_in file.now variables.now n) (operand_of head body))) ≤ length room.old) }
+    ensures { Put (spaced (operand_tokens (variables_in file.now variables.now n) (operand_of head body))) room.old at result room.new }
 {
     if head == ABSENT {
         return at;
@@ -82,8 +82,8 @@ pub(crate) fn put_operand(
 }
 
 pub(crate) fn put_operator(op: Operator, room: &mut [u8], at: usize) -> usize
-    requires { at + length (spaced (spellingOf edition10 op ∷ [])) ≤ length room.old }
-    ensures { Put (spaced (spellingOf edition10 op ∷ [])) room.old at result room.new }
+    requires { at + length (spaced (spelling_of edition10 op ∷ [])) ≤ length room.old }
+    ensures { Put (spaced (spelling_of edition10 op ∷ [])) room.old at result room.new }
 {
     let token = put_byte(b' ', room, at);
     let symbol = symbol_of(op);

@@ -6,19 +6,19 @@ use mathlib.Core.Option.{some}
 use Rattle.edition.specs.Edition.{edition10}
 use Rattle.refusal.specs.Result.{accepted}
 use Rattle.constraint.specs.File.{File}
-use Rattle.constraint.specs.Read.{readFile}
-use Rattle.plain.proofs.SaysLaws.{reads-exactly}
-use Rattle.clean_text.specs.Text.{cleanText}
+use Rattle.constraint.specs.Read.{read_file}
+use Rattle.plain.proofs.SaysLaws.{reads_exactly}
+use Rattle.clean_text.specs.Text.{clean_text}
 use Rattle.clean_text.specs.Claims.{TextReadsBack}
-use Rattle.clean_text.proofs.SaysAgain.{edition-one, says-again}
+use Rattle.clean_text.proofs.SaysAgain.{edition_one, says_again}
 
-pub text-reads-back : TextReadsBack
-text-reads-back bytes f e = (reads-exactly (cleanText f) f).1 (says-again bytes f ((reads-exactly bytes f).0 e))
+pub text_reads_back : TextReadsBack
+text_reads_back bytes f e = (reads_exactly (clean_text f) f).1 (says_again bytes f ((reads_exactly bytes f).0 e))
 
 -- two accepted files of one clean text are one
-pub same-text-same-file : (bytes bytes' : List ℕ) (f g : File) → readFile bytes ≡ accepted f → readFile bytes' ≡ accepted g → cleanText f ≡ cleanText g → f ≡ g
-same-text-same-file bytes bytes' f g p q e = let z : accepted f ≡ accepted g = sym (text-reads-back bytes f p) ∙ ap readFile e ∙ text-reads-back bytes' g q in cc z
+pub same_text_same_file : (bytes bytes' : List ℕ) (f g : File) → read_file bytes ≡ accepted f → read_file bytes' ≡ accepted g → clean_text f ≡ clean_text g → f ≡ g
+same_text_same_file bytes bytes' f g p q e = let z : accepted f ≡ accepted g = sym (text_reads_back bytes f p) ∙ ap read_file e ∙ text_reads_back bytes' g q in cc z
 
 -- every accepted file is of edition 1.0
-pub one-edition : (bytes : List ℕ) (f : File) → readFile bytes ≡ accepted f → f.version ≡ some edition10
-one-edition bytes f e = edition-one bytes f ((reads-exactly bytes f).0 e)
+pub one_edition : (bytes : List ℕ) (f : File) → read_file bytes ≡ accepted f → f.version ≡ some edition10
+one_edition bytes f e = edition_one bytes f ((reads_exactly bytes f).0 e)

@@ -12,116 +12,116 @@ use borrow.Author.Tests.{eqb-true}
 use Rattle.edition.specs.declared.Edition.{Edition}
 use Rattle.refusal.specs.Lists.{every}
 use Rattle.text.specs.Lines.{leads}
-use Rattle.text.proofs.SeenLaws.{isSeen}
+use Rattle.text.proofs.SeenLaws.{is_seen}
 use Rattle.constraint.specs.File.{Variable}
 use Rattle.constraint.specs.Sound.{Each, SoundVariable}
 use Rattle.constraint.proofs.SpacedLaws.{SeenWord}
-use Rattle.plain.specs.Says.{Said, leadingLetter, linesWith, tokensWith, isHeader, SpellsVersion, SaysExpectation, no_line, says-0, says-1, SpellsVariable, Pairwise}
-use Rattle.plain.proofs.HeaderLaws.{pairs-append}
-use Rattle.printing.specs.Digits.{digitsIn, digits}
-use Rattle.clean_text.specs.Text.{versionText, declarationText, versionLine, expectationLines, declarationLines}
-use Rattle.clean_text.proofs.Weights.{textsWeight, saidsWeight, weight-append}
-use Rattle.clean_text.proofs.RespeltLaws.{word-digits, word-declaration, word-version, version-cost, variable-spelt, variable-cost}
+use Rattle.plain.specs.Says.{Said, leading_letter, lines_with, tokens_with, is_header, SpellsVersion, SaysExpectation, no_line, says_0, says_1, SpellsVariable, Pairwise}
+use Rattle.plain.proofs.HeaderLaws.{pairs_append}
+use Rattle.printing.specs.Digits.{digits_in, digits}
+use Rattle.clean_text.specs.Text.{version_text, declaration_text, version_line, expectation_lines, declaration_lines}
+use Rattle.clean_text.proofs.Weights.{texts_weight, saids_weight, weight_append}
+use Rattle.clean_text.proofs.RespeltLaws.{word_digits, word_declaration, word_version, version_cost, variable_spelt, variable_cost}
 use Rattle.clean_text.proofs.SpokenLaws.{Spoken}
 
 -- ---- what it says
 -- the tokens of its `e` lines
-abbrev expectationTokens : Option ℕ → List (List (List ℕ))
-expectationTokens none = []
-expectationTokens (some n) = (digits n ∷ []) ∷ []
+abbrev expectation_tokens : Option ℕ → List (List (List ℕ))
+expectation_tokens none = []
+expectation_tokens (some n) = (digits n ∷ []) ∷ []
 
-abbrev expectationSaid : Option ℕ → List Said
-expectationSaid n = map (λ ts. record { letter = code "e"; tokens = ts }) (expectationTokens n)
+abbrev expectation_said : Option ℕ → List Said
+expectation_said n = map (λ ts. record { letter = code "e"; tokens = ts }) (expectation_tokens n)
 
-abbrev declarationsSaid : List Variable → List Said
-declarationsSaid [] = []
-declarationsSaid (x ∷ xs) = record { letter = code "d"; tokens = map declarationText (x ∷ xs) } ∷ []
+abbrev declarations_said : List Variable → List Said
+declarations_said [] = []
+declarations_said (x ∷ xs) = record { letter = code "d"; tokens = map declaration_text (x ∷ xs) } ∷ []
 
-abbrev pub headerSaid : Edition → Option ℕ → List Variable → List Said
-headerSaid e n xs = record { letter = code "v"; tokens = versionText e ∷ [] } ∷ expectationSaid n ++ declarationsSaid xs
+abbrev pub header_said : Edition → Option ℕ → List Variable → List Said
+header_said e n xs = record { letter = code "v"; tokens = version_text e ∷ [] } ∷ expectation_said n ++ declarations_said xs
 
 -- ---- the bytes that a header takes
 -- of lines, by their tokens
-abbrev linesWeight : List (List (List ℕ)) → ℕ
-linesWeight [] = 0
-linesWeight (ts ∷ tss) = 2 + textsWeight ts + linesWeight tss
+abbrev lines_weight : List (List (List ℕ)) → ℕ
+lines_weight [] = 0
+lines_weight (ts ∷ tss) = 2 + texts_weight ts + lines_weight tss
 
 -- of declarations on one line, whose letter and LF count if there are any
-abbrev headWeight : List (List ℕ) → ℕ
-headWeight [] = 0
-headWeight (t ∷ ts) = 2
+abbrev head_weight : List (List ℕ) → ℕ
+head_weight [] = 0
+head_weight (t ∷ ts) = 2
 
-abbrev declaredWeight : List (List ℕ) → ℕ
-declaredWeight ts = headWeight ts + textsWeight ts
+abbrev declared_weight : List (List ℕ) → ℕ
+declared_weight ts = head_weight ts + texts_weight ts
 
-declared-append : (ts us : List (List ℕ)) → declaredWeight (ts ++ us) ≤ 2 + textsWeight ts + declaredWeight us
-declared-append [] us = omega arith
-declared-append (t ∷ ts) us = omega (arith, weight-append ts us)
+declared_append : (ts us : List (List ℕ)) → declared_weight (ts ++ us) ≤ 2 + texts_weight ts + declared_weight us
+declared_append [] us = omega arith
+declared_append (t ∷ ts) us = omega (arith, weight_append ts us)
 
-abbrev partsWeight : List Said → ℕ
-partsWeight hs = linesWeight (linesWith (code "v") hs) + linesWeight (linesWith (code "e") hs) + declaredWeight (tokensWith (code "d") hs)
+abbrev parts_weight : List Said → ℕ
+parts_weight hs = lines_weight (lines_with (code "v") hs) + lines_weight (lines_with (code "e") hs) + declared_weight (tokens_with (code "d") hs)
 
-header-cost : (hs : List Said) → partsWeight hs ≤ saidsWeight hs
-unfolding linesWith tokensWith flat_map
-header-cost [] = omega arith
-header-cost (s ∷ hs) = go (eqb s.letter (code "v")) refl (eqb s.letter (code "e")) refl (eqb s.letter (code "d")) refl (header-cost hs)
+header_cost : (hs : List Said) → parts_weight hs ≤ saids_weight hs
+unfolding lines_with tokens_with flat_map
+header_cost [] = omega arith
+header_cost (s ∷ hs) = go (eqb s.letter (code "v")) refl (eqb s.letter (code "e")) refl (eqb s.letter (code "d")) refl (header_cost hs)
   where
-    go : (v : Bool) → eqb s.letter (code "v") ≡ v → (e : Bool) → eqb s.letter (code "e") ≡ e → (d : Bool) → eqb s.letter (code "d") ≡ d → partsWeight hs ≤ saidsWeight hs → partsWeight (s ∷ hs) ≤ saidsWeight (s ∷ hs)
+    go : (v : Bool) → eqb s.letter (code "v") ≡ v → (e : Bool) → eqb s.letter (code "e") ≡ e → (d : Bool) → eqb s.letter (code "d") ≡ d → parts_weight hs ≤ saids_weight hs → parts_weight (s ∷ hs) ≤ saids_weight (s ∷ hs)
     go true h e _ d _ ih = rw (eqb-true s.letter (code "v") h) (omega arith)
     go false h true k d _ ih = rw (eqb-true s.letter (code "e") k) (omega arith)
-    go false h false k true m ih = rw (eqb-true s.letter (code "d") m) (omega (arith, declared-append s.tokens (tokensWith (code "d") hs)))
+    go false h false k true m ih = rw (eqb-true s.letter (code "d") m) (omega (arith, declared_append s.tokens (tokens_with (code "d") hs)))
     go false h false k false m ih = rw (h, k, m) (omega arith)
 
 -- ---- the parts
 -- an `e` line has no other spelling
-pub expectation-same : (es : List (List (List ℕ))) (n : Option ℕ) → SaysExpectation es n → es ≡ expectationTokens n
-unfolding digits digitsIn
-expectation-same es n (no_line e k) = rw (e, k)
-expectation-same es n (says-0 e k) = rw (e, k)
-expectation-same es n (says-1 e k) = rw (e, k)
+pub expectation_same : (es : List (List (List ℕ))) (n : Option ℕ) → SaysExpectation es n → es ≡ expectation_tokens n
+unfolding digits digits_in
+expectation_same es n (no_line e k) = rw (e, k)
+expectation_same es n (says_0 e k) = rw (e, k)
+expectation_same es n (says_1 e k) = rw (e, k)
 
-pub declarations-again : (ts : List (List ℕ)) (xs : List Variable) → Pairwise SpellsVariable ts xs → Pairwise SpellsVariable (map declarationText xs) xs × (textsWeight (map declarationText xs) ≤ textsWeight ts) × (headWeight (map declarationText xs) ≡ headWeight ts)
-declarations-again [] [] p = (tt, omega arith, refl)
-declarations-again [] (x ∷ xs) p = absurd p
-declarations-again (t ∷ ts) [] p = absurd p
-declarations-again (t ∷ ts) (x ∷ xs) p = let q = declarations-again ts xs p.1 in ((variable-spelt t x p.0, q.0), omega (arith, q.1, variable-cost t x p.0), refl)
+pub declarations_again : (ts : List (List ℕ)) (xs : List Variable) → Pairwise SpellsVariable ts xs → Pairwise SpellsVariable (map declaration_text xs) xs × (texts_weight (map declaration_text xs) ≤ texts_weight ts) × (head_weight (map declaration_text xs) ≡ head_weight ts)
+declarations_again [] [] p = (tt, omega arith, refl)
+declarations_again [] (x ∷ xs) p = absurd p
+declarations_again (t ∷ ts) [] p = absurd p
+declarations_again (t ∷ ts) (x ∷ xs) p = let q = declarations_again ts xs p.1 in ((variable_spelt t x p.0, q.0), omega (arith, q.1, variable_cost t x p.0), refl)
 
 -- ---- the header's lines
-expectation-spoken : (n : Option ℕ) → Pairwise Spoken (expectationLines n) (expectationSaid n)
-unfolding expectationLines leadingLetter leads isSeen
-expectation-spoken none = tt
-expectation-spoken (some n) = (record { letter = (refl, refl, refl, refl); words = (word-digits n, tt); is = refl }, tt)
+expectation_spoken : (n : Option ℕ) → Pairwise Spoken (expectation_lines n) (expectation_said n)
+unfolding expectation_lines leading_letter leads is_seen
+expectation_spoken none = tt
+expectation_spoken (some n) = (record { letter = (refl, refl, refl, refl); words = (word_digits n, tt); is = refl }, tt)
 
-declaration-words : (e : Edition) (xs : List Variable) → Each (SoundVariable e) xs → Each SeenWord (map declarationText xs)
-declaration-words e [] s = tt
-declaration-words e (x ∷ xs) s = (word-declaration x s.0.spelt, declaration-words e xs s.1)
+declaration_words : (e : Edition) (xs : List Variable) → Each (SoundVariable e) xs → Each SeenWord (map declaration_text xs)
+declaration_words e [] s = tt
+declaration_words e (x ∷ xs) s = (word_declaration x s.0.spelt, declaration_words e xs s.1)
 
-declarations-spoken : (e : Edition) (xs : List Variable) → Each (SoundVariable e) xs → Pairwise Spoken (declarationLines xs) (declarationsSaid xs)
-unfolding declarationLines leadingLetter leads isSeen
-declarations-spoken e [] s = tt
-declarations-spoken e (x ∷ xs) s = (record { letter = (refl, refl, refl, refl); words = declaration-words e (x ∷ xs) s; is = refl }, tt)
+declarations_spoken : (e : Edition) (xs : List Variable) → Each (SoundVariable e) xs → Pairwise Spoken (declaration_lines xs) (declarations_said xs)
+unfolding declaration_lines leading_letter leads is_seen
+declarations_spoken e [] s = tt
+declarations_spoken e (x ∷ xs) s = (record { letter = (refl, refl, refl, refl); words = declaration_words e (x ∷ xs) s; is = refl }, tt)
 
-pub header-spoken : (e : Edition) (n : Option ℕ) (xs : List Variable) → Each (SoundVariable e) xs → Pairwise Spoken (versionLine e ∷ expectationLines n ++ declarationLines xs) (headerSaid e n xs)
-unfolding versionLine leadingLetter leads isSeen
-header-spoken e n xs s = (record { letter = (refl, refl, refl, refl); words = (word-version e, tt); is = refl }, pairs-append Spoken (expectationLines n) (declarationLines xs) (expectationSaid n) (declarationsSaid xs) (expectation-spoken n) (declarations-spoken e xs s))
+pub header_spoken : (e : Edition) (n : Option ℕ) (xs : List Variable) → Each (SoundVariable e) xs → Pairwise Spoken (version_line e ∷ expectation_lines n ++ declaration_lines xs) (header_said e n xs)
+unfolding version_line leading_letter leads is_seen
+header_spoken e n xs s = (record { letter = (refl, refl, refl, refl); words = (word_version e, tt); is = refl }, pairs_append Spoken (expectation_lines n) (declaration_lines xs) (expectation_said n) (declarations_said xs) (expectation_spoken n) (declarations_spoken e xs s))
 
 -- sorted by their letters
 pub record Sorted (e : Edition) (n : Option ℕ) (xs : List Variable) (hs : List Said) : Type 0 where
-  pub letters : every isHeader hs ≡ true
-  pub versions : linesWith (code "v") hs ≡ (versionText e ∷ []) ∷ []
-  pub expectations : linesWith (code "e") hs ≡ expectationTokens n
-  pub some-declared : Each (λ ts. 1 ≤ length ts) (linesWith (code "d") hs)
-  pub declared : tokensWith (code "d") hs ≡ map declarationText xs
-  weight : saidsWeight hs ≡ 3 + length (versionText e) + linesWeight (expectationTokens n) + declaredWeight (map declarationText xs)
+  pub letters : every is_header hs ≡ true
+  pub versions : lines_with (code "v") hs ≡ (version_text e ∷ []) ∷ []
+  pub expectations : lines_with (code "e") hs ≡ expectation_tokens n
+  pub some_declared : Each (λ ts. 1 ≤ length ts) (lines_with (code "d") hs)
+  pub declared : tokens_with (code "d") hs ≡ map declaration_text xs
+  weight : saids_weight hs ≡ 3 + length (version_text e) + lines_weight (expectation_tokens n) + declared_weight (map declaration_text xs)
 
-pub header-sorted : (e : Edition) (n : Option ℕ) (xs : List Variable) → Sorted e n xs (headerSaid e n xs)
-unfolding every isHeader linesWith tokensWith flat_map
-header-sorted e none [] = record { letters = refl; versions = refl; expectations = refl; some-declared = tt; declared = refl; weight = omega arith }
-header-sorted e none (x ∷ xs) = record { letters = refl; versions = refl; expectations = refl; some-declared = (omega arith, tt); declared = append-nil _; weight = omega arith }
-header-sorted e (some n) [] = record { letters = refl; versions = refl; expectations = refl; some-declared = tt; declared = refl; weight = omega arith }
-header-sorted e (some n) (x ∷ xs) = record { letters = refl; versions = refl; expectations = refl; some-declared = (omega arith, tt); declared = append-nil _; weight = omega arith }
+pub header_sorted : (e : Edition) (n : Option ℕ) (xs : List Variable) → Sorted e n xs (header_said e n xs)
+unfolding every is_header lines_with tokens_with flat_map
+header_sorted e none [] = record { letters = refl; versions = refl; expectations = refl; some_declared = tt; declared = refl; weight = omega arith }
+header_sorted e none (x ∷ xs) = record { letters = refl; versions = refl; expectations = refl; some_declared = (omega arith, tt); declared = append-nil _; weight = omega arith }
+header_sorted e (some n) [] = record { letters = refl; versions = refl; expectations = refl; some_declared = tt; declared = refl; weight = omega arith }
+header_sorted e (some n) (x ∷ xs) = record { letters = refl; versions = refl; expectations = refl; some_declared = (omega arith, tt); declared = append-nil _; weight = omega arith }
 
-pub header-no-longer : (e : Edition) (n : Option ℕ) (xs : List Variable) (hs : List Said) (t : List ℕ) → linesWith (code "v") hs ≡ (t ∷ []) ∷ [] → SpellsVersion t e → SaysExpectation (linesWith (code "e") hs) n → Pairwise SpellsVariable (tokensWith (code "d") hs) xs → saidsWeight (headerSaid e n xs) ≤ saidsWeight hs
-header-no-longer e n xs hs t one v x d =
-    let c = declarations-again (tokensWith (code "d") hs) xs d in
-    omega (arith, header-cost hs, (header-sorted e n xs).weight, ap linesWeight one, version-cost t e v, ap linesWeight (expectation-same _ n x), c.1, c.2)
+pub header_no_longer : (e : Edition) (n : Option ℕ) (xs : List Variable) (hs : List Said) (t : List ℕ) → lines_with (code "v") hs ≡ (t ∷ []) ∷ [] → SpellsVersion t e → SaysExpectation (lines_with (code "e") hs) n → Pairwise SpellsVariable (tokens_with (code "d") hs) xs → saids_weight (header_said e n xs) ≤ saids_weight hs
+header_no_longer e n xs hs t one v x d =
+    let c = declarations_again (tokens_with (code "d") hs) xs d in
+    omega (arith, header_cost hs, (header_sorted e n xs).weight, ap lines_weight one, version_cost t e v, ap lines_weight (expectation_same _ n x), c.1, c.2)

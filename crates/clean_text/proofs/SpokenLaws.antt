@@ -10,88 +10,88 @@ use lib.ListN.{length, length-append}
 use borrow.Author.Tests.{not-true}
 use Rattle.refusal.specs.Lists.{every}
 use Rattle.refusal.proofs.BoolLaws.{and_one}
-use Rattle.text.specs.Bytes.{isSpace, isAllowed}
+use Rattle.text.specs.Bytes.{is_space, is_allowed}
 use Rattle.text.specs.Lines.{TextLine, line_of, lines_from, leads}
-use Rattle.text.proofs.ContentLaws.{content-all}
-use Rattle.text.proofs.TokenLaws.{tokenBytes}
+use Rattle.text.proofs.ContentLaws.{content_all}
+use Rattle.text.proofs.TokenLaws.{token_bytes}
 use Rattle.text.proofs.ReadingLaws.{IsAllowed}
-use Rattle.text.proofs.AppendLaws.{lines-front, lines-last}
-use Rattle.text.proofs.SeenLaws.{isSeen, seen-allowed, seen-solid}
+use Rattle.text.proofs.AppendLaws.{lines_front, lines_last}
+use Rattle.text.proofs.SeenLaws.{is_seen, seen_allowed, seen_solid}
 use Rattle.constraint.specs.Sound.{Each}
-use Rattle.constraint.proofs.SpacedLaws.{SeenWord, spaced-every, spaced-tokens, spaced-bytes}
-use Rattle.plain.specs.Says.{Said, leadingLetter, isSkipped, tokensBehind, saidBy, Pairwise}
-use Rattle.clean_text.specs.Text.{spaced, lineText, fed}
-use Rattle.clean_text.proofs.Weights.{saidWeight, saidsWeight, length-joined}
+use Rattle.constraint.proofs.SpacedLaws.{SeenWord, spaced_every, spaced_tokens_lem, spaced_bytes}
+use Rattle.plain.specs.Says.{Said, leading_letter, is_skipped, tokens_behind, said_by, Pairwise}
+use Rattle.clean_text.specs.Text.{spaced, line_text, fed}
+use Rattle.clean_text.proofs.Weights.{said_weight, saids_weight, length_joined}
 
 -- a letter that lines are led by
 abbrev IsLetter : ℕ → Type 0
-IsLetter b = (leadingLetter (b ∷ []) ≡ b) × (isSeen b ≡ true) × (eqb b (code "#") ≡ false) × (eqb b 0 ≡ false)
+IsLetter b = (leading_letter (b ∷ []) ≡ b) × (is_seen b ≡ true) × (eqb b (code "#") ≡ false) × (eqb b 0 ≡ false)
 
 -- a line of such a letter, and words
 pub record Spoken (text : List ℕ) (s : Said) : Type 0 where
   pub letter : IsLetter s.letter
   pub words : Each SeenWord s.tokens
-  pub is : text ≡ lineText (s.letter ∷ []) s.tokens
+  pub is : text ≡ line_text (s.letter ∷ []) s.tokens
 
 -- ---- one line
-leading : (b : ℕ) (ss : List (List ℕ)) → leadingLetter (lineText (b ∷ []) ss) ≡ leadingLetter (b ∷ [])
-unfolding lineText spaced leadingLetter leads flat_map isSpace
+leading : (b : ℕ) (ss : List (List ℕ)) → leading_letter (line_text (b ∷ []) ss) ≡ leading_letter (b ∷ [])
+unfolding line_text spaced leading_letter leads flat_map is_space
 leading b [] = refl
 leading b (s ∷ ss) = simp and_one
 
 module _ (text : List ℕ) (s : Said) (h : Spoken text s) where
-  line-every : (p : ℕ → Bool) → p (code " ") ≡ true → ((c : ℕ) → isSeen c ≡ true → p c ≡ true) → every p text ≡ true
-  unfolding every lineText spaced
-  line-every p e f = rw (h.is, f s.letter h.letter.1) (spaced-every p e f s.tokens h.words)
+  line_every : (p : ℕ → Bool) → p (code " ") ≡ true → ((c : ℕ) → is_seen c ≡ true → p c ≡ true) → every p text ≡ true
+  unfolding every line_text spaced
+  line_every p e f = rw (h.is, f s.letter h.letter.1) (spaced_every p e f s.tokens h.words)
 
-  line-allowed : every isAllowed text ≡ true
-  unfolding isAllowed
-  line-allowed = line-every isAllowed refl seen-allowed
+  line_allowed : every is_allowed text ≡ true
+  unfolding is_allowed
+  line_allowed = line_every is_allowed refl seen_allowed
 
-  not-skipped : isSkipped text ≡ false
-  unfolding isSkipped every lineText
-  not-skipped = rw (h.is, not-true (isSpace s.letter) (seen-solid s.letter h.letter.1), h.letter.2)
+  not_skipped : is_skipped text ≡ false
+  unfolding is_skipped every line_text
+  not_skipped = rw (h.is, not-true (is_space s.letter) (seen_solid s.letter h.letter.1), h.letter.2)
 
-  line-tokens : (l : TextLine) → l.bytes ≡ text → tokensBehind l ≡ s.tokens
-  unfolding tokensBehind lineText spaced
-  line-tokens l e = rw (e, h.is) (ap tokenBytes (spaced-tokens s.tokens (l.start + 1) h.words) ∙ spaced-bytes _ s.tokens)
+  line_tokens : (l : TextLine) → l.bytes ≡ text → tokens_behind l ≡ s.tokens
+  unfolding tokens_behind line_text spaced
+  line_tokens l e = rw (e, h.is) (ap token_bytes (spaced_tokens_lem s.tokens (l.start + 1) h.words) ∙ spaced_bytes _ s.tokens)
 
-  line-says : (l : TextLine) → l.bytes ≡ text → saidBy l ≡ s ∷ []
-  unfolding saidBy
-  line-says l e = rw (line-tokens l e, e, not-skipped, h.is, leading s.letter s.tokens, h.letter.0)
+  line_says : (l : TextLine) → l.bytes ≡ text → said_by l ≡ s ∷ []
+  unfolding said_by
+  line_says l e = rw (line_tokens l e, e, not_skipped, h.is, leading s.letter s.tokens, h.letter.0)
 
-  line-weight : suc (length text) ≡ saidWeight s
-  unfolding lineText spaced
-  line-weight = rw h.letter.3 (omega (arith, ap length h.is, length-joined (code " ") s.tokens))
+  line_weight : suc (length text) ≡ said_weight s
+  unfolding line_text spaced
+  line_weight = rw h.letter.3 (omega (arith, ap length h.is, length_joined (code " ") s.tokens))
 
   -- where it is the last line of a text
-  last-bytes : (at : ℕ) → (line_of at text).bytes ≡ text
+  last_bytes : (at : ℕ) → (line_of at text).bytes ≡ text
   unfolding line_of
-  last-bytes at = content-all text line-allowed
+  last_bytes at = content_all text line_allowed
 
   last_line : (at : ℕ) → lines_from true at text ≡ line_of at text ∷ []
-  unfolding lineText
-  last_line at = lines-last text at line-allowed (omega (arith, ap length h.is))
+  unfolding line_text
+  last_line at = lines_last text at line_allowed (omega (arith, ap length h.is))
 
 -- ---- a text of lines
 -- lines say these letters and words, and their bytes are allowed
 abbrev Say : List TextLine → List Said → Type 0
-Say ls ss = (flat_map saidBy ls ≡ ss) × Each IsAllowed ls
+Say ls ss = (flat_map said_by ls ≡ ss) × Each IsAllowed ls
 
-say-more : (l : TextLine) (ls : List TextLine) (t : List ℕ) (s : Said) (ss : List Said) → l.bytes ≡ t → Spoken t s → Say ls ss → Say (l ∷ ls) (s ∷ ss)
+say_more : (l : TextLine) (ls : List TextLine) (t : List ℕ) (s : Said) (ss : List Said) → l.bytes ≡ t → Spoken t s → Say ls ss → Say (l ∷ ls) (s ∷ ss)
 unfolding flat_map
-say-more l ls t s ss e h p = (rw (line-says t s h l e, p.0), (rw e (line-allowed t s h), p.1))
+say_more l ls t s ss e h p = (rw (line_says t s h l e, p.0), (rw e (line_allowed t s h), p.1))
 
 -- each behind an LF but the first
 abbrev pub Speaks : ℕ → List ℕ → List (List ℕ) → List Said → Type 0
-Speaks at t ts ss = Say (lines_from true at (t ++ fed ts)) ss × (suc (length (t ++ fed ts)) ≡ saidsWeight ss)
+Speaks at t ts ss = Say (lines_from true at (t ++ fed ts)) ss × (suc (length (t ++ fed ts)) ≡ saids_weight ss)
 
 pub text_says : (t : List ℕ) (ts : List (List ℕ)) (s : Said) (ss : List Said) (at : ℕ) → Pairwise Spoken (t ∷ ts) (s ∷ ss) → Speaks at t ts (s ∷ ss)
 unfolding fed flat_map
-text_says t [] s [] at p = rw append-nil (rw (last_line t s p.0 at) (say-more (line_of at t) [] t s [] (last-bytes t s p.0 at) p.0 (refl, tt)), omega (arith, line-weight t s p.0))
+text_says t [] s [] at p = rw append-nil (rw (last_line t s p.0 at) (say_more (line_of at t) [] t s [] (last_bytes t s p.0 at) p.0 (refl, tt)), omega (arith, line_weight t s p.0))
 text_says t [] s (r ∷ ss) at p = absurd p.1
 text_says t (u ∷ ts) s [] at p = absurd p.1
 text_says t (u ∷ ts) s (r ∷ ss) at p =
     let next = at + suc (length t) in
     let q = text_says u ts r ss next p.1 in
-    (rw (lines-front t (u ++ fed ts) at (line-allowed t s p.0)) (say-more _ (lines_from true next (u ++ fed ts)) t s (r ∷ ss) refl p.0 q.0), omega (arith, q.1, line-weight t s p.0, length-append t (code "\n" ∷ u ++ fed ts)))
+    (rw (lines_front t (u ++ fed ts) at (line_allowed t s p.0)) (say_more _ (lines_from true next (u ++ fed ts)) t s (r ∷ ss) refl p.0 q.0), omega (arith, q.1, line_weight t s p.0, length-append t (code "\n" ∷ u ++ fed ts)))

@@ -6,9 +6,9 @@ use mathlib.Core.List.{List, [], ◌∷◌, ◌++◌, map, nil≢cons, cons≢ni
 use mathlib.Core.Option.{none}
 use native.Mathlib.Omega.{arith}
 use lib.ListN.{length, get_or, take}
-use Rattle.refusal.specs.Lists.{firstFrom}
+use Rattle.refusal.specs.Lists.{first_from}
 use Rattle.refusal.proofs.ResultLaws.{never}
-use Rattle.refusal.proofs.ListLaws.{first-none}
+use Rattle.refusal.proofs.ListLaws.{first_none}
 use Rattle.constraint.specs.File.{Variable}
 use Rattle.constraint.specs.Sound.{Each, Distinct}
 
@@ -30,9 +30,9 @@ each_at P (x ∷ xs) zero d p h = p.0
 each_at P (x ∷ xs) (suc i) d p h = each_at P xs i d p.1 (omega arith)
 
 -- an element behind others
-pub each-here : {A : Type 0} (P : A → Type 0) (xs : List A) (x : A) (ys : List A) → Each P (xs ++ (x ∷ ys)) → P x
-each-here P [] x ys p = p.0
-each-here P (y ∷ xs) x ys p = each-here P xs x ys p.1
+pub each_here : {A : Type 0} (P : A → Type 0) (xs : List A) (x : A) (ys : List A) → Each P (xs ++ (x ∷ ys)) → P x
+each_here P [] x ys p = p.0
+each_here P (y ∷ xs) x ys p = each_here P xs x ys p.1
 
 -- more elements, and one element more
 each_append : {A : Type 0} (P : A → Type 0) (xs ys : List A) → Each P xs → Each P ys → Each P (xs ++ ys)
@@ -43,10 +43,10 @@ pub each_last : {A : Type 0} (P : A → Type 0) (xs : List A) (x : A) → Each P
 each_last P xs x p q = each_append P xs (x ∷ []) p (q, tt)
 
 -- of the first n elements, those of a front
-pub each-front : {A : Type 0} (P : A → Type 0) (n : ℕ) (xs ys : List A) → Each P (take n (xs ++ ys)) → Each P (take n xs)
-each-front P zero xs ys p = tt
-each-front P (suc n) [] ys p = tt
-each-front P (suc n) (x ∷ xs) ys p = (p.0, each-front P n xs ys p.1)
+pub each_front : {A : Type 0} (P : A → Type 0) (n : ℕ) (xs ys : List A) → Each P (take n (xs ++ ys)) → Each P (take n xs)
+each_front P zero xs ys p = tt
+each_front P (suc n) [] ys p = tt
+each_front P (suc n) (x ∷ xs) ys p = (p.0, each_front P n xs ys p.1)
 
 -- no element at all
 pub each_none : {A : Type 0} (P : A → Type 0) (xs : List A) → length xs ≡ 0 → Each P xs
@@ -54,11 +54,11 @@ each_none P [] e = tt
 each_none P (x ∷ xs) e = never (cc e)
 
 -- where no element is the first to pass a test, each fails
-pub each-fails : {A : Type 0} (test : A → Bool) (n : ℕ) (xs : List A) → firstFrom test n xs ≡ none → Each (λ x. test x ≡ false) xs
-each-fails test n [] e = tt
-each-fails test n (x ∷ xs) e = let p = first-none test n x xs e in (p.0, each-fails test (suc n) xs p.1)
+pub each_fails : {A : Type 0} (test : A → Bool) (n : ℕ) (xs : List A) → first_from test n xs ≡ none → Each (λ x. test x ≡ false) xs
+each_fails test n [] e = tt
+each_fails test n (x ∷ xs) e = let p = first_none test n x xs e in (p.0, each_fails test (suc n) xs p.1)
 
 -- one variable more, whose name is new
-pub distinct-last : (xs : List Variable) (x : Variable) → Distinct xs → Each (λ y. y.name ≡ x.name → ⊥) xs → Distinct (xs ++ (x ∷ []))
-distinct-last [] x d h = (tt, tt)
-distinct-last (y ∷ xs) x d h = (each_last (λ z. y.name ≡ z.name → ⊥) xs x d.0 h.0, distinct-last xs x d.1 h.1)
+pub distinct_last : (xs : List Variable) (x : Variable) → Distinct xs → Each (λ y. y.name ≡ x.name → ⊥) xs → Distinct (xs ++ (x ∷ []))
+distinct_last [] x d h = (tt, tt)
+distinct_last (y ∷ xs) x d h = (each_last (λ z. y.name ≡ z.name → ⊥) xs x d.0 h.0, distinct_last xs x d.1 h.1)

@@ -3,18 +3,18 @@ use Rattle.std.specs.Prelude.{ℕ, zero, suc, ◌%◌, ◌^◌, Bool, cond, not,
 use Prim.Native.Char.{code}
 use Rattle.std.proofs.Math.Option.{Option, none, some}
 use Rattle.edition.specs.declared.Edition.{Edition}
-use Rattle.edition.specs.Edition.{editionNumbered, maxVariables, maxLines, maxNameBytes, isWidth}
+use Rattle.edition.specs.Edition.{edition_numbered, max_variables, max_lines, max_name_bytes, is_width}
 use Rattle.refusal.specs.declared.Refusal.{Refusal}
 use Rattle.refusal.specs.declared.Subject.TheVariants.{Constraint}
-use Rattle.refusal.specs.Numbers.{unknownLine, misplacedLine, wrongVersion, wrongExpectation, misspelt, notAWidth, numberTooLarge, overLimit, nameTaken, notDeclared, unknownOperator, typeRuleBroken}
-use Rattle.refusal.specs.Lists.{isThere}
+use Rattle.refusal.specs.Numbers.{unknown_line, misplaced_line, wrong_version, wrong_expectation, misspelt, not_aWidth, number_too_large, over_limit, name_taken, not_declared, unknown_operator, type_rule_broken}
+use Rattle.refusal.specs.Lists.{is_there}
 use Rattle.refusal.specs.Result.{Result, accepted, refused, refusal, ensure, given, ◌>>=◌, ◌>>◌}
 use Rattle.refusal.specs.SubjectWords.{ascii}
 use Rattle.arithmetic.specs.Rules.{arity}
 use Rattle.text.specs.Bytes.{same}
 use Rattle.text.specs.Lines.{TextLine, Token, arguments, leads}
-use Rattle.text.specs.Spelling.{isName, isNumeral, decimal, maxDigits, numberBound, is_type, typeWidth, up_to, behind}
-use Rattle.text.specs.Reading.{atToken, atLine, nextToken, noMoreTokens, readText}
+use Rattle.text.specs.Spelling.{is_name, is_numeral, decimal, max_digits, number_bound, is_type, type_width, up_to, behind}
+use Rattle.text.specs.Reading.{at_token, at_line, next_token, no_more_tokens, read_text}
 use Rattle.constraint.specs.declared.Operand.{Operand}
 use Rattle.constraint.specs.declared.Operand.TheVariants.{Absent, Var, Const}
 use Rattle.constraint.specs.declared.Operands.{Operands}
@@ -23,150 +23,150 @@ use Rattle.constraint.specs.declared.Kind.{Kind}
 use Rattle.constraint.specs.declared.Kind.TheVariants.{Skipped, OfVersion, OfExpectation, OfDeclarations, OfStatement, OfNoKind}
 use Rattle.constraint.specs.declared.Form.{Form}
 use Rattle.constraint.specs.declared.Form.TheVariants.{WithOutput, Predicate}
-use Rattle.constraint.specs.File.{Variable, File, emptyFile, withVersion, withExpectation, withVariable, withLine, editionOf, variableNamed}
-use Rattle.constraint.specs.TypeRules.{wellTyped}
-use Rattle.spelling.specs.Operators.{operatorNamed, isReserved}
+use Rattle.constraint.specs.File.{Variable, File, empty_file, with_version, with_expectation, with_variable, with_line, edition_of, variable_named}
+use Rattle.constraint.specs.TypeRules.{well_typed}
+use Rattle.spelling.specs.Operators.{operator_named, is_reserved}
 
 -- the refusal of a token, and of a line at its start
-abbrev pub inConstraint : Token → ℕ → Refusal
-inConstraint = atToken Constraint
+abbrev pub in_constraint : Token → ℕ → Refusal
+in_constraint = at_token Constraint
 
-abbrev pub atConstraintLine : TextLine → ℕ → Refusal
-atConstraintLine = atLine Constraint
+abbrev pub at_constraint_line : TextLine → ℕ → Refusal
+at_constraint_line = at_line Constraint
 
 -- THE HEADER
 
 -- `v`, `e` and `d` lines stand before the first `c` or `p`
-unfoldable pub inHeader : File → Bool
-inHeader f = eqb (length f.lines) 0
+unfoldable pub in_header : File → Bool
+in_header f = eqb (length f.lines) 0
 
 -- a line with one token, where such a line is allowed: `parse` says what the token means, `add` is the file with it
-unfoldable pub readSingle : {A : Type 0} → Bool → (List ℕ → Option A) → ℕ → (A → File) → TextLine → Result File
-readSingle allowed parse wrong add l = do
-  ensure allowed (atConstraintLine l misplacedLine)
-  (t, ts) ← nextToken Constraint l (arguments l)
-  a ← given (parse t.bytes) (inConstraint t wrong)
-  noMoreTokens Constraint ts
+unfoldable pub read_single : {A : Type 0} → Bool → (List ℕ → Option A) → ℕ → (A → File) → TextLine → Result File
+read_single allowed parse wrong add l = do
+  ensure allowed (at_constraint_line l misplaced_line)
+  (t, ts) ← next_token Constraint l (arguments l)
+  a ← given (parse t.bytes) (in_constraint t wrong)
+  no_more_tokens Constraint ts
   accepted (add a)
 
 -- the digits of a version's number, at most
-abbrev pub maxVersionDigits : ℕ
-maxVersionDigits = 4
+abbrev pub max_version_digits : ℕ
+max_version_digits = 4
 
 -- the edition of a version token: "1 to 4 digits, a dot, 1 to 4 digits, with the numbers 1 and 0"
-unfoldable pub versionOf : List ℕ → Option Edition
-versionOf s =
+unfoldable pub version_of : List ℕ → Option Edition
+version_of s =
     let major = up_to (code ".") s in
     let minor = behind (code ".") s in
-    cond (isNumeral maxVersionDigits major && isNumeral maxVersionDigits minor) (editionNumbered (decimal major) (decimal minor)) none
+    cond (is_numeral max_version_digits major && is_numeral max_version_digits minor) (edition_numbered (decimal major) (decimal minor)) none
 
 -- "Exactly one `v`": a second is 4
-unfoldable pub readVersion : File → TextLine → Result File
-readVersion f = readSingle (inHeader f && not (isThere f.version)) versionOf wrongVersion (withVersion f)
+unfoldable pub read_version : File → TextLine → Result File
+read_version f = read_single (in_header f && not (is_there f.version)) version_of wrong_version (with_version f)
 
 -- "`e` takes `0` or `1`"
-unfoldable pub expectationOf : List ℕ → Option ℕ
-expectationOf s = cond (same (ascii "0") s) (some 0) (cond (same (ascii "1") s) (some 1) none)
+unfoldable pub expectation_of : List ℕ → Option ℕ
+expectation_of s = cond (same (ascii "0") s) (some 0) (cond (same (ascii "1") s) (some 1) none)
 
 -- "at most one `e`": a second is 4
-unfoldable pub readExpectation : File → TextLine → Result File
-readExpectation f = readSingle (inHeader f && not (isThere f.expectation)) expectationOf wrongExpectation (withExpectation f)
+unfoldable pub read_expectation : File → TextLine → Result File
+read_expectation f = read_single (in_header f && not (is_there f.expectation)) expectation_of wrong_expectation (with_expectation f)
 
 -- a declaration, `name:iK`: "in one token the smaller number"
 unfoldable pub declare : Edition → List Variable → Token → Result Variable
 declare e xs t = do
   let name = up_to (code ":") t.bytes
   let type = behind (code ":") t.bytes
-  ensure (isName name && is_type type) (inConstraint t misspelt)
-  ensure (isWidth (typeWidth type)) (inConstraint t notAWidth)
-  ensure (leb (length name) maxNameBytes && ltb (length xs) maxVariables) (inConstraint t overLimit)
-  ensure (not (isReserved e name) && not (isThere (variableNamed name xs))) (inConstraint t nameTaken)
-  accepted (record { name = name; width = typeWidth type })
+  ensure (is_name name && is_type type) (in_constraint t misspelt)
+  ensure (is_width (type_width type)) (in_constraint t not_aWidth)
+  ensure (leb (length name) max_name_bytes && ltb (length xs) max_variables) (in_constraint t over_limit)
+  ensure (not (is_reserved e name) && not (is_there (variable_named name xs))) (in_constraint t name_taken)
+  accepted (record { name = name; width = type_width type })
 
 -- declarations from left to right
-unfoldable pub declareAll : File → List Token → Result File
-declareAll f [] = accepted f
-declareAll f (t ∷ ts) = declare (editionOf f) f.variables t >>= λ x. declareAll (withVariable f x) ts
+unfoldable pub declare_all : File → List Token → Result File
+declare_all f [] = accepted f
+declare_all f (t ∷ ts) = declare (edition_of f) f.variables t >>= λ x. declare_all (with_variable f x) ts
 
 -- "`d` takes one or more"
-unfoldable pub readDeclarations : File → TextLine → Result File
-readDeclarations f l = do
-  ensure (inHeader f) (atConstraintLine l misplacedLine)
-  (t, ts) ← nextToken Constraint l (arguments l)
-  declareAll f (t ∷ ts)
+unfoldable pub read_declarations : File → TextLine → Result File
+read_declarations f l = do
+  ensure (in_header f) (at_constraint_line l misplaced_line)
+  (t, ts) ← next_token Constraint l (arguments l)
+  declare_all f (t ∷ ts)
 
 -- THE LINES
 
 -- a variable used; a reserved name is never declared, so 13 as well
-unfoldable pub readVariable : List Variable → Token → Result Operand
-readVariable xs t = do
-  ensure (leb (length t.bytes) maxNameBytes) (inConstraint t overLimit)
-  i ← given (variableNamed t.bytes xs) (inConstraint t notDeclared)
+unfoldable pub read_variable : List Variable → Token → Result Operand
+read_variable xs t = do
+  ensure (leb (length t.bytes) max_name_bytes) (in_constraint t over_limit)
+  i ← given (variable_named t.bytes xs) (in_constraint t not_declared)
   accepted (Var i)
 
 -- a constant: "read as an unsigned number below 2^64 and reduced modulo 2^K"
-unfoldable pub readConstant : Token → Result Operand
-readConstant t = do
+unfoldable pub read_constant : Token → Result Operand
+read_constant t = do
   let number = up_to (code ":") t.bytes
   let type = behind (code ":") t.bytes
-  ensure (isNumeral maxDigits number && is_type type) (inConstraint t misspelt)
-  ensure (isWidth (typeWidth type)) (inConstraint t notAWidth)
-  ensure (ltb (decimal number) numberBound) (inConstraint t numberTooLarge)
-  accepted (Const (record { width = typeWidth type; value = decimal number % 2 ^ typeWidth type }))
+  ensure (is_numeral max_digits number && is_type type) (in_constraint t misspelt)
+  ensure (is_width (type_width type)) (in_constraint t not_aWidth)
+  ensure (ltb (decimal number) number_bound) (in_constraint t number_too_large)
+  accepted (Const (record { width = type_width type; value = decimal number % 2 ^ type_width type }))
 
 -- an operand, or the output of a `c` line: a token that is a name is a variable, any other a constant
-unfoldable pub readOperand : List Variable → Token → Result Operand
-readOperand xs t = cond (isName t.bytes) (readVariable xs t) (readConstant t)
+unfoldable pub read_operand : List Variable → Token → Result Operand
+read_operand xs t = cond (is_name t.bytes) (read_variable xs t) (read_constant t)
 
 -- the operand of the next token, and the tokens behind it
-unfoldable pub nextOperand : List Variable → TextLine → List Token → Result (Operand × List Token)
-nextOperand xs l ts = do
-  (t, ts) ← nextToken Constraint l ts
-  o ← readOperand xs t
+unfoldable pub next_operand : List Variable → TextLine → List Token → Result (Operand × List Token)
+next_operand xs l ts = do
+  (t, ts) ← next_token Constraint l ts
+  o ← read_operand xs t
   accepted (o, ts)
 
 -- no operands, and one in front of others
-abbrev pub noOperands : Operands
-noOperands = record { first = Absent; second = Absent; third = Absent }
+abbrev pub no_operands : Operands
+no_operands = record { first = Absent; second = Absent; third = Absent }
 
-abbrev pub inFront : Operand → Operands → Operands
-inFront o os = record { first = o; second = os.first; third = os.second }
+abbrev pub in_front : Operand → Operands → Operands
+in_front o os = record { first = o; second = os.first; third = os.second }
 
 -- the next n operands, and the tokens behind them
-unfoldable pub readOperands : List Variable → TextLine → ℕ → List Token → Result (Operands × List Token)
-readOperands xs l zero ts = accepted (noOperands, ts)
-readOperands xs l (suc n) ts = do
-  (o, ts) ← nextOperand xs l ts
-  (os, ts) ← readOperands xs l n ts
-  accepted (inFront o os, ts)
+unfoldable pub read_operands : List Variable → TextLine → ℕ → List Token → Result (Operands × List Token)
+read_operands xs l zero ts = accepted (no_operands, ts)
+read_operands xs l (suc n) ts = do
+  (o, ts) ← next_operand xs l ts
+  (os, ts) ← read_operands xs l n ts
+  accepted (in_front o os, ts)
 
 -- an operator, its operands and no more; "15 only if all tokens are sound"
-unfoldable pub readOperation : File → TextLine → Operand → List Token → Result Line
-readOperation f l output ts = do
-  (t, ts) ← nextToken Constraint l ts
-  op ← given (operatorNamed (editionOf f) t.bytes) (inConstraint t unknownOperator)
-  (os, ts) ← readOperands f.variables l (arity op) ts
-  noMoreTokens Constraint ts
+unfoldable pub read_operation : File → TextLine → Operand → List Token → Result Line
+read_operation f l output ts = do
+  (t, ts) ← next_token Constraint l ts
+  op ← given (operator_named (edition_of f) t.bytes) (in_constraint t unknown_operator)
+  (os, ts) ← read_operands f.variables l (arity op) ts
+  no_more_tokens Constraint ts
   let line : Line = record { output = output; operator = op; operands = os }
-  ensure (wellTyped f.variables line) (inConstraint t typeRuleBroken)
+  ensure (well_typed f.variables line) (in_constraint t type_rule_broken)
   accepted line
 
 -- the output of a line, and the tokens behind it; a `p` line has none
-unfoldable pub nextOutput : Form → List Variable → TextLine → List Token → Result (Operand × List Token)
-nextOutput WithOutput xs l ts = nextOperand xs l ts
-nextOutput Predicate xs l ts = accepted (Absent, ts)
+unfoldable pub next_output : Form → List Variable → TextLine → List Token → Result (Operand × List Token)
+next_output WithOutput xs l ts = next_operand xs l ts
+next_output Predicate xs l ts = accepted (Absent, ts)
 
 -- "`c` takes an output (variable or constant), an operator, its operands; `p` an operator and its operands"
-unfoldable pub readStatement : Form → File → TextLine → Result Line
-readStatement form f l = do
-  ensure (ltb (length f.lines) maxLines) (atConstraintLine l overLimit)
-  (output, ts) ← nextOutput form f.variables l (arguments l)
-  readOperation f l output ts
+unfoldable pub read_statement : Form → File → TextLine → Result Line
+read_statement form f l = do
+  ensure (ltb (length f.lines) max_lines) (at_constraint_line l over_limit)
+  (output, ts) ← next_output form f.variables l (arguments l)
+  read_operation f l output ts
 
 -- the file with the line that was read
-abbrev pub addLine : File → Result Line → Result File
-addLine f (accepted line) = accepted (withLine f line)
-addLine f (refused r) = refused r
+abbrev pub add_line : File → Result Line → Result File
+add_line f (accepted line) = accepted (with_line f line)
+add_line f (refused r) = refused r
 
 -- THE FILE
 
@@ -182,20 +182,20 @@ kind_of s =
     OfNoKind)))))
 
 -- a line of a kind
-unfoldable pub readAs : Kind → File → TextLine → Result File
-readAs Skipped f l = accepted f
-readAs OfVersion f l = readVersion f l
-readAs OfExpectation f l = readExpectation f l
-readAs OfDeclarations f l = readDeclarations f l
-readAs (OfStatement form) f l = addLine f (readStatement form f l)
-readAs OfNoKind f l = refused (atConstraintLine l unknownLine)
+unfoldable pub read_as : Kind → File → TextLine → Result File
+read_as Skipped f l = accepted f
+read_as OfVersion f l = read_version f l
+read_as OfExpectation f l = read_expectation f l
+read_as OfDeclarations f l = read_declarations f l
+read_as (OfStatement form) f l = add_line f (read_statement form f l)
+read_as OfNoKind f l = refused (at_constraint_line l unknown_line)
 
-unfoldable pub readLine : File → TextLine → Result File
-readLine f l = readAs (kind_of l.bytes) f l
+unfoldable pub read_line : File → TextLine → Result File
+read_line f l = read_as (kind_of l.bytes) f l
 
 -- "What is missing from the whole file comes last": a file without `v` is refused 4 at its length
-unfoldable pub readFile : List ℕ → Result File
-readFile bytes = do
-  f ← readText Constraint readLine emptyFile bytes
-  ensure (isThere f.version) (refusal Constraint misplacedLine (length bytes))
+unfoldable pub read_file : List ℕ → Result File
+read_file bytes = do
+  f ← read_text Constraint read_line empty_file bytes
+  ensure (is_there f.version) (refusal Constraint misplaced_line (length bytes))
   accepted f

@@ -10,64 +10,64 @@ use lib.Dec.{eqb, leb, ltb}
 use lib.ListN.{length, get_or, take, drop, length-drop}
 use borrow.Author.Tests.{le-leb, lt-leb, lt-ltb, le-ltb, leb-true, ltb-true, eqb-true}
 use Rattle.edition.specs.declared.Edition.{Edition}
-use Rattle.edition.specs.Edition.{maxVariables, maxNameBytes, maxWidth, isWidth}
-use Rattle.refusal.specs.Numbers.{misspelt, notAWidth, overLimit, nameTaken}
-use Rattle.refusal.specs.Lists.{every, isThere}
+use Rattle.edition.specs.Edition.{max_variables, max_name_bytes, max_width, is_width}
+use Rattle.refusal.specs.Numbers.{misspelt, not_aWidth, over_limit, name_taken}
+use Rattle.refusal.specs.Lists.{every, is_there}
 use Rattle.refusal.specs.Result.{accepted, refused, ensure, ◌>>◌}
-use Rattle.refusal.proofs.BoolLaws.{and-true, and-false}
+use Rattle.refusal.proofs.BoolLaws.{and_true, and_false}
 use Rattle.refusal.proofs.ListLaws.{not_there}
 use Rattle.refusal.proofs.ResultLaws.{never}
 use Rattle.text.specs.declared.Class.TheVariants.{Solid, NameByte}
 use Rattle.text.specs.declared.TypeRead.{TypeRead}
 use Rattle.text.specs.declared.TypeRead.TheVariants.{Width, NoWidth, NoType}
-use Rattle.text.specs.Bytes.{frontOf, isLetter, isDigit, isNameByte}
+use Rattle.text.specs.Bytes.{front_of, is_letter, is_digit, is_name_byte}
 use Rattle.text.specs.Lines.{Token}
-use Rattle.text.specs.Spelling.{isName, is_type, typeWidth, up_to, behind}
-use Rattle.text.specs.Scan.{is_of, past, type_of, typeBehindColon}
-use Rattle.text.proofs.RunLaws.{run-part, strict-split, strict-rest}
-use Rattle.text.proofs.SeenLaws.{name-bytes}
-use Rattle.text.proofs.PartLaws.{first-fails, part-front, part-behind, part-bare, part-broken}
-use Rattle.text.proofs.FirstByteLaws.{name-solid, name-whole, not-bytes, no-name-part}
+use Rattle.text.specs.Spelling.{is_name, is_type, type_width, up_to, behind}
+use Rattle.text.specs.Scan.{is_of, past, type_of, type_behind_colon}
+use Rattle.text.proofs.RunLaws.{run_part, strict_split, strict_rest}
+use Rattle.text.proofs.SeenLaws.{name_bytes}
+use Rattle.text.proofs.PartLaws.{first_fails, part_front, part_behind, part_bare, part_broken}
+use Rattle.text.proofs.FirstByteLaws.{name_solid, name_whole, not_bytes, no_name_part}
 use Rattle.declaration.specs.declared.Declaration.{Declaration}
 use Rattle.declaration.specs.declared.Declaration.TheVariants.{Fresh, Faulty}
-use Rattle.constraint.specs.File.{Variable, variableNamed}
-use Rattle.spelling.specs.Operators.{isReserved}
-use Rattle.constraint.specs.Read.{inConstraint, declare}
-use Rattle.text.specs.Scan.{tokenFrom}
-use Rattle.declaration.specs.Internal.{declarationResult, newName, declarationOf}
+use Rattle.constraint.specs.File.{Variable, variable_named}
+use Rattle.spelling.specs.Operators.{is_reserved}
+use Rattle.constraint.specs.Read.{in_constraint, declare}
+use Rattle.text.specs.Scan.{token_from}
+use Rattle.declaration.specs.Internal.{declaration_result, new_name, declaration_of}
 
 -- ---- a new name, from a place to the end of a text
 module _ (e : Edition) (xs : List Variable) (text : List ℕ) (start k n : ℕ) (l : length xs ≡ n) where
-  pub new-long : maxNameBytes < length text - start → Faulty overLimit ≡ newName e xs (drop start text) k
-  unfolding newName
-  new-long h = rw (length-drop, lt-leb (length text - start) maxNameBytes h)
+  pub new_long : max_name_bytes < length text - start → Faulty over_limit ≡ new_name e xs (drop start text) k
+  unfolding new_name
+  new_long h = rw (length-drop, lt-leb (length text - start) max_name_bytes h)
 
-  module _ (short : length text - start ≤ maxNameBytes) where
-    pub new-full : maxVariables ≤ n → Faulty overLimit ≡ newName e xs (drop start text) k
-    unfolding newName
-    new-full h = rw (length-drop, le-leb (length text - start) maxNameBytes short, l, le-ltb n maxVariables h)
+  module _ (short : length text - start ≤ max_name_bytes) where
+    pub new_full : max_variables ≤ n → Faulty over_limit ≡ new_name e xs (drop start text) k
+    unfolding new_name
+    new_full h = rw (length-drop, le-leb (length text - start) max_name_bytes short, l, le-ltb n max_variables h)
 
-    module _ (room : n < maxVariables) where
-      pub new-reserved : isReserved e (drop start text) ≡ true → Faulty nameTaken ≡ newName e xs (drop start text) k
-      unfolding newName
-      new-reserved h = rw (length-drop, le-leb (length text - start) maxNameBytes short, l, lt-ltb n maxVariables room, h)
+    module _ (room : n < max_variables) where
+      pub new_reserved : is_reserved e (drop start text) ≡ true → Faulty name_taken ≡ new_name e xs (drop start text) k
+      unfolding new_name
+      new_reserved h = rw (length-drop, le-leb (length text - start) max_name_bytes short, l, lt-ltb n max_variables room, h)
 
-      module _ (free : isReserved e (drop start text) ≡ false) where
-        pub new-declared : (i : ℕ) → some i ≡ variableNamed (drop start text) xs → Faulty nameTaken ≡ newName e xs (drop start text) k
-        unfolding newName
-        new-declared i h = rw (length-drop, le-leb (length text - start) maxNameBytes short, l, lt-ltb n maxVariables room, free, ← h)
+      module _ (free : is_reserved e (drop start text) ≡ false) where
+        pub new_declared : (i : ℕ) → some i ≡ variable_named (drop start text) xs → Faulty name_taken ≡ new_name e xs (drop start text) k
+        unfolding new_name
+        new_declared i h = rw (length-drop, le-leb (length text - start) max_name_bytes short, l, lt-ltb n max_variables room, free, ← h)
 
-        pub new-fresh : none ≡ variableNamed (drop start text) xs → Fresh k ≡ newName e xs (drop start text) k
-        unfolding newName
-        new-fresh h = rw (length-drop, le-leb (length text - start) maxNameBytes short, l, lt-ltb n maxVariables room, free, ← h)
+        pub new_fresh : none ≡ variable_named (drop start text) xs → Fresh k ≡ new_name e xs (drop start text) k
+        unfolding new_name
+        new_fresh h = rw (length-drop, le-leb (length text - start) max_name_bytes short, l, lt-ltb n max_variables room, free, ← h)
 
 -- ---- a declaration, by its parts
 -- the tests, whatever they say
-split : (t : Token) (name : List ℕ) (k : ℕ) (type width small free : Bool) → declarationResult t name (declarationOf (cond type (cond width (Width k) NoWidth) NoType) (λ k. cond small (cond free (Fresh k) (Faulty nameTaken)) (Faulty overLimit))) ≡ (do
-  ensure type (inConstraint t misspelt)
-  ensure width (inConstraint t notAWidth)
-  ensure small (inConstraint t overLimit)
-  ensure free (inConstraint t nameTaken)
+split : (t : Token) (name : List ℕ) (k : ℕ) (type width small free : Bool) → declaration_result t name (declaration_of (cond type (cond width (Width k) NoWidth) NoType) (λ k. cond small (cond free (Fresh k) (Faulty name_taken)) (Faulty over_limit))) ≡ (do
+  ensure type (in_constraint t misspelt)
+  ensure width (in_constraint t not_aWidth)
+  ensure small (in_constraint t over_limit)
+  ensure free (in_constraint t name_taken)
   accepted (record { name = name; width = k }))
 split t name k false width small free = refl
 split t name k true false small free = refl
@@ -75,106 +75,106 @@ split t name k true true false free = refl
 split t name k true true true false = refl
 split t name k true true true true = refl
 
-colon-no-name : isNameByte 58 ≡ false
-unfolding isNameByte isLetter isDigit
-colon-no-name = refl
+colon_no_name : is_name_byte 58 ≡ false
+unfolding is_name_byte is_letter is_digit
+colon_no_name = refl
 
 module _ (e : Edition) (xs : List Variable) (t : Token) where
-  declare-is : let name = up_to (code ":") t.bytes in isName name ≡ true → declarationResult t name (declarationOf (type_of (behind (code ":") t.bytes)) (newName e xs name)) ≡ declare e xs t
-  unfolding declare type_of newName
-  declare-is named =
+  declare_is : let name = up_to (code ":") t.bytes in is_name name ≡ true → declaration_result t name (declaration_of (type_of (behind (code ":") t.bytes)) (new_name e xs name)) ≡ declare e xs t
+  unfolding declare type_of new_name
+  declare_is named =
       let name = up_to (code ":") t.bytes in
       let type = behind (code ":") t.bytes in
-      rw named (split t name (typeWidth type) (is_type type) (isWidth (typeWidth type)) (leb (length name) maxNameBytes && ltb (length xs) maxVariables) (not (isReserved e name) && not (isThere (variableNamed name xs))))
+      rw named (split t name (type_width type) (is_type type) (is_width (type_width type)) (leb (length name) max_name_bytes && ltb (length xs) max_variables) (not (is_reserved e name) && not (is_there (variable_named name xs))))
 
   -- no name, or no type
-  misspelt-name : isName (up_to (code ":") t.bytes) ≡ false → refused (inConstraint t misspelt) ≡ declare e xs t
+  misspelt_name : is_name (up_to (code ":") t.bytes) ≡ false → refused (in_constraint t misspelt) ≡ declare e xs t
   unfolding declare
-  misspelt-name f = rw f
+  misspelt_name f = rw f
 
-  misspelt-type : behind (code ":") t.bytes ≡ [] → refused (inConstraint t misspelt) ≡ declare e xs t
+  misspelt_type : behind (code ":") t.bytes ≡ [] → refused (in_constraint t misspelt) ≡ declare e xs t
   unfolding declare is_type
-  misspelt-type f = rw (f, and-false (isName (up_to (code ":") t.bytes)))
+  misspelt_type f = rw (f, and_false (is_name (up_to (code ":") t.bytes)))
 
   -- a token of a name and what stands behind it, which starts with no byte of a name
-  parts-declared : (name rest : List ℕ) → isName name ≡ true → t.bytes ≡ name ++ rest → frontOf isNameByte rest ≡ [] → declarationResult t name (declarationOf (typeBehindColon rest) (newName e xs name)) ≡ declare e xs t
-  unfolding typeBehindColon
-  parts-declared name [] named q r = misspelt-type (ap (behind 58) q ∙ part-bare isNameByte 58 colon-no-name name (name-bytes name named))
-  parts-declared name (b ∷ s) named q r = go (eqb b 58) refl
+  parts_declared : (name rest : List ℕ) → is_name name ≡ true → t.bytes ≡ name ++ rest → front_of is_name_byte rest ≡ [] → declaration_result t name (declaration_of (type_behind_colon rest) (new_name e xs name)) ≡ declare e xs t
+  unfolding type_behind_colon
+  parts_declared name [] named q r = misspelt_type (ap (behind 58) q ∙ part_bare is_name_byte 58 colon_no_name name (name_bytes name named))
+  parts_declared name (b ∷ s) named q r = go (eqb b 58) refl
     where
-      bytes : every isNameByte name ≡ true
-      bytes = name-bytes name named
+      bytes : every is_name_byte name ≡ true
+      bytes = name_bytes name named
 
-      go : (c : Bool) → eqb b 58 ≡ c → declarationResult t name (declarationOf (cond c (type_of s) NoType) (newName e xs name)) ≡ declare e xs t
+      go : (c : Bool) → eqb b 58 ≡ c → declaration_result t name (declaration_of (cond c (type_of s) NoType) (new_name e xs name)) ≡ declare e xs t
       go true c =
           let z : t.bytes ≡ name ++ (58 ∷ []) ++ s = q ∙ ap (λ (x : ℕ). name ++ x ∷ s) (eqb-true b 58 c) ∙ sym (append_assoc name (58 ∷ []) s) in
-          let front : up_to 58 t.bytes ≡ name = ap (up_to 58) z ∙ part-front isNameByte 58 colon-no-name name bytes s in
-          let back : behind 58 t.bytes ≡ s = ap (behind 58) z ∙ part-behind isNameByte 58 colon-no-name name bytes s in
-          rw (front, back) at (declare-is (ap isName front ∙ named))
-      go false c = misspelt-name (ap (λ s. isName (up_to 58 s)) q ∙ not-bytes (up_to 58 (name ++ b ∷ s)) (part-broken isNameByte 58 colon-no-name name bytes b s (first-fails isNameByte b s r) c))
+          let front : up_to 58 t.bytes ≡ name = ap (up_to 58) z ∙ part_front is_name_byte 58 colon_no_name name bytes s in
+          let back : behind 58 t.bytes ≡ s = ap (behind 58) z ∙ part_behind is_name_byte 58 colon_no_name name bytes s in
+          rw (front, back) at (declare_is (ap is_name front ∙ named))
+      go false c = misspelt_name (ap (λ s. is_name (up_to 58 s)) q ∙ not_bytes (up_to 58 (name ++ b ∷ s)) (part_broken is_name_byte 58 colon_no_name name bytes b s (first_fails is_name_byte b s r) c))
 
 -- the token that starts at a place of a line
 module _ (e : Edition) (xs : List Variable) (line : List ℕ) (start : ℕ) (h : start < length line) where
-  pub declared-not : isLetter (get_or line start 0) ≡ false → refused (inConstraint (tokenFrom line start) misspelt) ≡ declare e xs (tokenFrom line start)
-  declared-not a = misspelt-name e xs (tokenFrom line start) (no-name-part line start h a (code ":"))
+  pub declared_not : is_letter (get_or line start 0) ≡ false → refused (in_constraint (token_from line start) misspelt) ≡ declare e xs (token_from line start)
+  declared_not a = misspelt_name e xs (token_from line start) (no_name_part line start h a (code ":"))
 
   -- a name reaches to `stop`
-  module _ (a : isLetter (get_or line start 0) ≡ true) (stop : ℕ) (hs : stop ≡ past (is_of NameByte) line start) where
-    pub declared-by : (type : TypeRead) → type ≡ typeBehindColon (frontOf (is_of Solid) (drop stop line)) → let name = drop start (take stop line) in declarationResult (tokenFrom line start) name (declarationOf type (newName e xs name)) ≡ declare e xs (tokenFrom line start)
+  module _ (a : is_letter (get_or line start 0) ≡ true) (stop : ℕ) (hs : stop ≡ past (is_of NameByte) line start) where
+    pub declared_by : (type : TypeRead) → type ≡ type_behind_colon (front_of (is_of Solid) (drop stop line)) → let name = drop start (take stop line) in declaration_result (token_from line start) name (declaration_of type (new_name e xs name)) ≡ declare e xs (token_from line start)
     unfolding is_of
-    declared-by type k =
+    declared_by type k =
         let l : start ≤ length line = omega arith in
-        let part = run-part (is_of NameByte) line start l ∙ ap (λ n. drop start (take n line)) (sym hs) in
-        rw k (parts-declared e xs (tokenFrom line start) (drop start (take stop line)) (frontOf (is_of Solid) (drop stop line)) (name-whole line start h a stop hs) (sym (run-part (is_of Solid) line start l) ∙ strict-split (is_of NameByte) (is_of Solid) name-solid line start stop l hs ∙ ap (λ s. s ++ frontOf (is_of Solid) (drop stop line)) part) (strict-rest (is_of NameByte) (is_of Solid) name-solid line start stop l hs))
+        let part = run_part (is_of NameByte) line start l ∙ ap (λ n. drop start (take n line)) (sym hs) in
+        rw k (parts_declared e xs (token_from line start) (drop start (take stop line)) (front_of (is_of Solid) (drop stop line)) (name_whole line start h a stop hs) (sym (run_part (is_of Solid) line start l) ∙ strict_split (is_of NameByte) (is_of Solid) name_solid line start stop l hs ∙ ap (λ s. s ++ front_of (is_of Solid) (drop stop line)) part) (strict_rest (is_of NameByte) (is_of Solid) name_solid line start stop l hs))
 
 -- ---- a declaration that is fresh
-fresh-other : {A : Type 0} {k number : ℕ} → Fresh k ≡ Faulty number → A
-fresh-other e = never (cc e)
+fresh_other : {A : Type 0} {k number : ℕ} → Fresh k ≡ Faulty number → A
+fresh_other e = never (cc e)
 
 pub record FreshName (xs : List Variable) (name : List ℕ) (type : TypeRead) (k : ℕ) : Type 0 where
-  pub short : length name ≤ maxNameBytes
-  pub room : length xs < maxVariables
-  pub new : variableNamed name xs ≡ none
+  pub short : length name ≤ max_name_bytes
+  pub room : length xs < max_variables
+  pub new : variable_named name xs ≡ none
   pub typed : type ≡ Width k
 
 module _ (e : Edition) (xs : List Variable) (name : List ℕ) (k : ℕ) where
-  new-is-fresh : (j : ℕ) → Fresh k ≡ newName e xs name j → FreshName xs name (Width j) k
-  unfolding newName
-  new-is-fresh j = go (leb (length name) maxNameBytes && ltb (length xs) maxVariables) (not (isReserved e name) && not (isThere (variableNamed name xs))) refl refl
+  new_is_fresh : (j : ℕ) → Fresh k ≡ new_name e xs name j → FreshName xs name (Width j) k
+  unfolding new_name
+  new_is_fresh j = go (leb (length name) max_name_bytes && ltb (length xs) max_variables) (not (is_reserved e name) && not (is_there (variable_named name xs))) refl refl
     where
-      go : (small free : Bool) → (leb (length name) maxNameBytes && ltb (length xs) maxVariables) ≡ small → (not (isReserved e name) && not (isThere (variableNamed name xs))) ≡ free → Fresh k ≡ cond small (cond free (Fresh j) (Faulty nameTaken)) (Faulty overLimit) → FreshName xs name (Width j) k
+      go : (small free : Bool) → (leb (length name) max_name_bytes && ltb (length xs) max_variables) ≡ small → (not (is_reserved e name) && not (is_there (variable_named name xs))) ≡ free → Fresh k ≡ cond small (cond free (Fresh j) (Faulty name_taken)) (Faulty over_limit) → FreshName xs name (Width j) k
       go true true s f q =
-          let p = and-true (leb (length name) maxNameBytes) (ltb (length xs) maxVariables) s in
+          let p = and_true (leb (length name) max_name_bytes) (ltb (length xs) max_variables) s in
           record {
-            short = leb-true (length name) maxNameBytes p.0;
-            room = ltb-true (length xs) maxVariables p.1;
-            new = not_there (variableNamed name xs) (and-true (not (isReserved e name)) (not (isThere (variableNamed name xs))) f).1;
+            short = leb-true (length name) max_name_bytes p.0;
+            room = ltb-true (length xs) max_variables p.1;
+            new = not_there (variable_named name xs) (and_true (not (is_reserved e name)) (not (is_there (variable_named name xs))) f).1;
             typed = cc q;
           }
-      go true false s f q = fresh-other q
-      go false free s f q = fresh-other q
+      go true false s f q = fresh_other q
+      go false free s f q = fresh_other q
 
-  pub fresh-is : (type : TypeRead) → Fresh k ≡ declarationOf type (newName e xs name) → FreshName xs name type k
-  fresh-is NoType q = fresh-other q
-  fresh-is NoWidth q = fresh-other q
-  fresh-is (Width j) q = new-is-fresh j q
+  pub fresh_is : (type : TypeRead) → Fresh k ≡ declaration_of type (new_name e xs name) → FreshName xs name type k
+  fresh_is NoType q = fresh_other q
+  fresh_is NoWidth q = fresh_other q
+  fresh_is (Width j) q = new_is_fresh j q
 
 -- a width that is read is within the limit
 abbrev WidthFits : TypeRead → Type 0
-WidthFits (Width k) = k ≤ maxWidth
+WidthFits (Width k) = k ≤ max_width
 WidthFits NoWidth = Unit {0}
 WidthFits NoType = Unit {0}
 
-fits-split : (colon type width : Bool) (k : ℕ) → (width ≡ true → k ≤ maxWidth) → WidthFits (cond colon (cond type (cond width (Width k) NoWidth) NoType) NoType)
-fits-split true true true k h = h refl
-fits-split true true false k h = tt
-fits-split true false width k h = tt
-fits-split false type width k h = tt
+fits_split : (colon type width : Bool) (k : ℕ) → (width ≡ true → k ≤ max_width) → WidthFits (cond colon (cond type (cond width (Width k) NoWidth) NoType) NoType)
+fits_split true true true k h = h refl
+fits_split true true false k h = tt
+fits_split true false width k h = tt
+fits_split false type width k h = tt
 
-type-fits : (s : List ℕ) → WidthFits (typeBehindColon s)
-unfolding typeBehindColon type_of isWidth
-type-fits [] = tt
-type-fits (b ∷ s) = fits-split (eqb b (code ":")) (is_type s) _ (typeWidth s) (λ e. leb-true (typeWidth s) maxWidth (and-true (leb 1 (typeWidth s)) (leb (typeWidth s) maxWidth) e).1)
+type_fits : (s : List ℕ) → WidthFits (type_behind_colon s)
+unfolding type_behind_colon type_of is_width
+type_fits [] = tt
+type_fits (b ∷ s) = fits_split (eqb b (code ":")) (is_type s) _ (type_width s) (λ e. leb-true (type_width s) max_width (and_true (leb 1 (type_width s)) (leb (type_width s) max_width) e).1)
 
-pub width_fits : (s : List ℕ) (type : TypeRead) → type ≡ typeBehindColon s → (k : ℕ) → type ≡ Width k → k ≤ maxWidth
-width_fits s type e k q = rw (← e, q) at (type-fits s)
+pub width_fits : (s : List ℕ) (type : TypeRead) → type ≡ type_behind_colon s → (k : ℕ) → type ≡ Width k → k ≤ max_width
+width_fits s type e k q = rw (← e, q) at (type_fits s)

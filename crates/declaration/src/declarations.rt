@@ -1,15 +1,15 @@
 // The `d` lines.
 ghost use Rattle.std.specs.Prelude.{◌≡◌, true, List, ℕ, ◌+◌, ◌<◌, ◌≤◌, length, take, drop};
 ghost use Rattle.edition.specs.declared.Edition.{Edition as TheEdition};
-ghost use Rattle.edition.specs.Edition.{maxFileBytes, maxVariables};
-ghost use Rattle.text.specs.Lines.{tokensFrom};
-ghost use Rattle.text.specs.Scan.{line_at, tokenFrom};
+ghost use Rattle.edition.specs.Edition.{max_file_bytes, max_variables};
+ghost use Rattle.text.specs.Lines.{tokens_from};
+ghost use Rattle.text.specs.Scan.{line_at, token_from};
 ghost use Rattle.constraint.specs.File.{File};
-ghost use Rattle.constraint.specs.Read.{declareAll, readDeclarations};
+ghost use Rattle.constraint.specs.Read.{declare_all, read_declarations};
 ghost use Rattle.store.specs.Names.{Searchable};
-ghost use Rattle.store.specs.Tables.{variablesIn, store_of};
-ghost use Rattle.store.specs.Progress.{storedFile, advanced, addedResult, InTables, AddsVariables, StepSearchable};
-ghost use Rattle.declaration.specs.Internal.{putResult, declaredBehind, PutHolds, declaredResult, DeclaredHolds};
+ghost use Rattle.store.specs.Tables.{variables_in, store_of};
+ghost use Rattle.store.specs.Progress.{stored_file, advanced, added_result, InTables, AddsVariables, StepSearchable};
+ghost use Rattle.declaration.specs.Internal.{put_result, declared_behind, PutHolds, declared_result, DeclaredHolds};
 
 use super::declaring::declare;
 use super::{Declaration, Declared, Put};
@@ -30,8 +30,8 @@ fn declare_next(
     variables: &mut [u64; Edition::VARIABLES],
     n: usize,
 ) -> Put
-    requires { (at < stop) × (stop ≤ length file.now) × (length file.now ≤ maxFileBytes) × (n ≤ maxVariables) × (length variables.old ≡ maxVariables) × Searchable file.now variables.old n }
-    ensures { ((e : TheEdition) → putResult (variablesIn file.now variables.new (n + 1)) result ≡ declaredBehind e (variablesIn file.now variables.old n) (tokenFrom (take stop file.now) at)) × PutHolds file.now stop at variables.new n result × (length variables.new ≡ maxVariables) }
+    requires { (at < stop) × (stop ≤ length file.now) × (length file.now ≤ max_file_bytes) × (n ≤ max_variables) × (length variables.old ≡ max_variables) × Searchable file.now variables.old n }
+    ensures { ((e : TheEdition) → put_result (variables_in file.now variables.new (n + 1)) result ≡ declared_behind e (variables_in file.now variables.old n) (token_from (take stop file.now) at)) × PutHolds file.now stop at variables.new n result × (length variables.new ≡ max_variables) }
 {
     let line = &file[..stop];
     if !is_letter(line[at]) {
@@ -60,8 +60,8 @@ fn declare_all(
     variables: &mut [u64; Edition::VARIABLES],
     n: usize,
 ) -> Declared
-    requires { (at ≤ stop) × (stop ≤ length file.now) × (length file.now ≤ maxFileBytes) × (n ≤ maxVariables) × (length variables.old ≡ maxVariables) × Searchable file.now variables.old n }
-    ensures { ((f : File) → f.variables ≡ variablesIn file.now variables.old n → declaredResult f (variablesIn file.now variables.new) result ≡ declareAll f (tokensFrom true at (drop at (take stop file.now)))) × (length variables.new ≡ maxVariables) × DeclaredHolds file.now variables.new result }
+    requires { (at ≤ stop) × (stop ≤ length file.now) × (length file.now ≤ max_file_bytes) × (n ≤ max_variables) × (length variables.old ≡ max_variables) × Searchable file.now variables.old n }
+    ensures { ((f : File) → f.variables ≡ variables_in file.now variables.old n → declared_result f (variables_in file.now variables.new) result ≡ declare_all f (tokens_from true at (drop at (take stop file.now)))) × (length variables.new ≡ max_variables) × DeclaredHolds file.now variables.new result }
 {
     let mut k = n;
     let mut i = at;
@@ -91,8 +91,8 @@ pub fn declaration_line(
     variables: &mut [u64; Edition::VARIABLES],
     p: Progress,
 ) -> Added
-    requires { (at < stop) × (stop ≤ length file.now) × (length file.now ≤ maxFileBytes) × InTables p × (length variables.old ≡ maxVariables) × Searchable file.now variables.old p.variables }
-    ensures { ((heads bodies : List ℕ) (next : ℕ) → addedResult file.now (store_of variables.new heads bodies) p result ≡ readDeclarations (storedFile file.now (store_of variables.old heads bodies) p) (line_at (take stop file.now) at next)) × (length variables.new ≡ maxVariables) × AddsVariables p result × StepSearchable file.now variables.new (advanced p result) }
+    requires { (at < stop) × (stop ≤ length file.now) × (length file.now ≤ max_file_bytes) × InTables p × (length variables.old ≡ max_variables) × Searchable file.now variables.old p.variables }
+    ensures { ((heads bodies : List ℕ) (next : ℕ) → added_result file.now (store_of variables.new heads bodies) p result ≡ read_declarations (stored_file file.now (store_of variables.old heads bodies) p) (line_at (take stop file.now) at next)) × (length variables.new ≡ max_variables) × AddsVariables p result × StepSearchable file.now variables.new (advanced p result) }
 {
     let n = p.variables;
     let m = p.lines;

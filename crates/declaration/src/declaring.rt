@@ -1,11 +1,11 @@
 // A declaration, `name:iK`.
 ghost use Rattle.std.specs.Prelude.{◌≡◌, ◌≤◌, length, drop};
 ghost use Rattle.edition.specs.declared.Edition.{Edition as TheEdition};
-ghost use Rattle.edition.specs.Edition.{maxVariables};
-ghost use Rattle.store.specs.Hash.{hashOf};
+ghost use Rattle.edition.specs.Edition.{max_variables};
+ghost use Rattle.store.specs.Hash.{hash_of};
 ghost use Rattle.store.specs.Names.{Searchable};
-ghost use Rattle.store.specs.Tables.{variablesIn};
-ghost use Rattle.declaration.specs.Internal.{newName, declarationOf};
+ghost use Rattle.store.specs.Tables.{variables_in};
+ghost use Rattle.declaration.specs.Internal.{new_name, declaration_of};
 
 use super::Declaration;
 use edition::Edition;
@@ -25,8 +25,8 @@ fn new_name(
     hash: u32,
     width: u64,
 ) -> Declaration
-    requires { (at ≤ length text.now) × (n ≤ maxVariables) × Searchable file.now variables.now n × (hash ≡ hashOf (drop at text.now)) }
-    ensures { (e : TheEdition) → result ≡ newName e (variablesIn file.now variables.now n) (drop at text.now) width }
+    requires { (at ≤ length text.now) × (n ≤ max_variables) × Searchable file.now variables.now n × (hash ≡ hash_of (drop at text.now)) }
+    ensures { (e : TheEdition) → result ≡ new_name e (variables_in file.now variables.now n) (drop at text.now) width }
 {
     if Edition::NAME_BYTES < text.len() - at {
         return Declaration::Faulty(Refusal::OVER_LIMIT);
@@ -53,8 +53,8 @@ pub(crate) fn declare(
     hash: u32,
     kind: TypeRead,
 ) -> Declaration
-    requires { (at ≤ length text.now) × (n ≤ maxVariables) × Searchable file.now variables.now n × (hash ≡ hashOf (drop at text.now)) }
-    ensures { (e : TheEdition) → result ≡ declarationOf kind (newName e (variablesIn file.now variables.now n) (drop at text.now)) }
+    requires { (at ≤ length text.now) × (n ≤ max_variables) × Searchable file.now variables.now n × (hash ≡ hash_of (drop at text.now)) }
+    ensures { (e : TheEdition) → result ≡ declaration_of kind (new_name e (variables_in file.now variables.now n) (drop at text.now)) }
 {
     match kind {
         TypeRead::NoType => Declaration::Faulty(Refusal::MISSPELT),

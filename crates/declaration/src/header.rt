@@ -1,12 +1,12 @@
 // The `v` and `e` lines.
 ghost use Rattle.std.specs.Prelude.{◌≡◌, List, true, ℕ, ◌<◌, ◌≤◌, length, drop};
-ghost use Rattle.edition.specs.Edition.{editionNumbered};
-ghost use Rattle.text.specs.Lines.{tokensFrom};
-ghost use Rattle.constraint.specs.Read.{versionOf, expectationOf};
-ghost use Rattle.declaration.specs.Internal.{editionBy, unlessMore, headerToken, isFirst, readHeaderLine};
+ghost use Rattle.edition.specs.Edition.{edition_numbered};
+ghost use Rattle.text.specs.Lines.{tokens_from};
+ghost use Rattle.constraint.specs.Read.{version_of, expectation_of};
+ghost use Rattle.declaration.specs.Internal.{edition_by, unless_more, header_token, is_first, read_header_line};
 ghost use Rattle.store.specs.Tables.{Store};
 ghost use Rattle.store.specs.declared.Progress.{Progress as TheProgress};
-ghost use Rattle.store.specs.Progress.{storedFile, versionRead, expectationRead, addedResult, AddsHeader};
+ghost use Rattle.store.specs.Progress.{stored_file, version_read, expectation_read, added_result, AddsHeader};
 ghost use Rattle.text.specs.Scan.{line_at};
 
 use super::{HeaderLine, HeaderToken};
@@ -24,7 +24,7 @@ const MAX_VERSION_DIGITS: usize = 4;
 
 // The edition of a version's two numbers.
 fn edition_numbered(major: u64, minor: u64) -> Version
-    ensures { versionRead result ≡ editionNumbered major minor }
+    ensures { version_read result ≡ edition_numbered major minor }
 {
     let e = Edition::v1_0();
     if (major == e.major) & (minor == e.minor) {
@@ -36,7 +36,7 @@ fn edition_numbered(major: u64, minor: u64) -> Version
 
 // The edition of two numbers as they were read.
 fn edition_of(major: Number, minor: Number) -> Version
-    ensures { versionRead result ≡ editionBy major minor }
+    ensures { version_read result ≡ edition_by major minor }
 {
     match major {
         Number::Misspelt => Version::NoVersion,
@@ -52,7 +52,7 @@ fn edition_of(major: Number, minor: Number) -> Version
 // The edition of the version token from `at` to the end.
 fn version_at(text: &[u8], at: usize) -> Version
     requires { at ≤ length text.now }
-    ensures { versionRead result ≡ versionOf (drop at text.now) }
+    ensures { version_read result ≡ version_of (drop at text.now) }
 {
     let dot = scan(text, at, Class::Until(b'.'));
     let major = number_at(&text[..dot], at, MAX_VERSION_DIGITS);
@@ -62,7 +62,7 @@ fn version_at(text: &[u8], at: usize) -> Version
 
 fn expectation_at(text: &[u8], at: usize) -> Expectation
     requires { at ≤ length text.now }
-    ensures { expectationRead result ≡ expectationOf (drop at text.now) }
+    ensures { expectation_read result ≡ expectation_of (drop at text.now) }
 {
     if is_word(text, at, b"0") {
         return Expectation::HasExpectation(0);
@@ -76,7 +76,7 @@ fn expectation_at(text: &[u8], at: usize) -> Expectation
 // What the token of a line says.
 fn token_at(text: &[u8], at: usize, line: HeaderLine) -> HeaderToken
     requires { at ≤ length text.now }
-    ensures { result ≡ headerToken line (drop at text.now) }
+    ensures { result ≡ header_token line (drop at text.now) }
 {
     match line {
         HeaderLine::VersionLine => match version_at(text, at) {
@@ -92,7 +92,7 @@ fn token_at(text: &[u8], at: usize, line: HeaderLine) -> HeaderToken
 
 // Whether there was no such line yet.
 fn is_first(p: Progress, line: HeaderLine) -> bool
-    ensures { (bytes : List ℕ) (t : Store) → result ≡ isFirst line (storedFile bytes t p) }
+    ensures { (bytes : List ℕ) (t : Store) → result ≡ is_first line (stored_file bytes t p) }
 {
     let version = p.version;
     let expectation = p.expectation;
@@ -111,7 +111,7 @@ fn is_first(p: Progress, line: HeaderLine) -> bool
 // What the line adds, unless another token stands from `at` on.
 fn unless_more(line: &[u8], at: usize, added: Added) -> Added
     requires { at ≤ length line.now }
-    ensures { ((bytes : List ℕ) (t : Store) (p : TheProgress) → addedResult bytes t p result ≡ unlessMore (tokensFrom true at (drop at line.now)) (addedResult bytes t p added)) × (AddsHeader added → AddsHeader result) }
+    ensures { ((bytes : List ℕ) (t : Store) (p : TheProgress) → added_result bytes t p result ≡ unless_more (tokens_from true at (drop at line.now)) (added_result bytes t p added)) × (AddsHeader added → AddsHeader result) }
 {
     match next_token(line, at) {
         NextToken::OneMore(t) => Added::Fault(refusal(Refusal::TOKEN_COUNT, t.start)),
@@ -122,7 +122,7 @@ fn unless_more(line: &[u8], at: usize, added: Added) -> Added
 // The `v` or `e` line from `at` to the end.
 pub fn header_line(text: &[u8], at: usize, p: Progress, line: HeaderLine) -> Added
     requires { at < length text.now }
-    ensures { ((bytes : List ℕ) (t : Store) (next : ℕ) → addedResult bytes t p result ≡ readHeaderLine line (storedFile bytes t p) (line_at text.now at next)) × AddsHeader result }
+    ensures { ((bytes : List ℕ) (t : Store) (next : ℕ) → added_result bytes t p result ≡ read_header_line line (stored_file bytes t p) (line_at text.now at next)) × AddsHeader result }
 {
     if p.lines != 0 {
         return Added::Fault(refusal(Refusal::MISPLACED_LINE, at));

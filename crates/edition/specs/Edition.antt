@@ -9,29 +9,29 @@ abbrev pub edition10 : Edition
 edition10 = record { major = 1; minor = 0 }
 
 -- the edition of a version's two numbers
-unfoldable pub editionNumbered : ℕ → ℕ → Option Edition
-editionNumbered major minor = cond (eqb major edition10.major && eqb minor edition10.minor) (some edition10) none
+unfoldable pub edition_numbered : ℕ → ℕ → Option Edition
+edition_numbered major minor = cond (eqb major edition10.major && eqb minor edition10.minor) (some edition10) none
 
 -- the limits of an edition: bytes of either file, variables, lines of kind `c` or `p`, bytes of a name, bits of a value
 abbrev pub limits : Edition → Limits
 limits e = record { file = 65536; variables = 256; lines = 1024; name = 32; width = 64 }
 
 -- those of version 1.0, each by its name
-abbrev pub maxFileBytes : ℕ
-maxFileBytes = (limits edition10).file
+abbrev pub max_file_bytes : ℕ
+max_file_bytes = (limits edition10).file
 
-abbrev pub maxVariables : ℕ
-maxVariables = (limits edition10).variables
+abbrev pub max_variables : ℕ
+max_variables = (limits edition10).variables
 
-abbrev pub maxLines : ℕ
-maxLines = (limits edition10).lines
+abbrev pub max_lines : ℕ
+max_lines = (limits edition10).lines
 
-abbrev pub maxNameBytes : ℕ
-maxNameBytes = (limits edition10).name
+abbrev pub max_name_bytes : ℕ
+max_name_bytes = (limits edition10).name
 
-abbrev pub maxWidth : ℕ
-maxWidth = (limits edition10).width
+abbrev pub max_width : ℕ
+max_width = (limits edition10).width
 
 -- "widths 1 to 64"
-unfoldable pub isWidth : ℕ → Bool
-isWidth k = leb 1 k && leb k maxWidth
+unfoldable pub is_width : ℕ → Bool
+is_width k = leb 1 k && leb k max_width

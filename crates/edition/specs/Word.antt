@@ -2,5 +2,5 @@
 use Rattle.std.specs.Prelude.{ℕ}
 
 -- the bits of a word
-abbrev pub wordBits : ℕ
-wordBits = 64
+abbrev pub word_bits : ℕ
+word_bits = 64

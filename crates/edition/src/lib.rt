@@ -1,14 +1,14 @@
 // The editions of the format, and the limits that belong to them.
 ghost use Rattle.std.specs.Prelude.{◌≡◌};
-ghost use Rattle.edition.specs.Edition.{edition10, limits as limitsOf, isWidth};
-ghost use Rattle.edition.specs.Word.{wordBits};
+ghost use Rattle.edition.specs.Edition.{edition10, limits as limitsOf, is_width};
+ghost use Rattle.edition.specs.Word.{word_bits};
 
 // The bits of a word, which holds a value of any width.
 pub const WORD_BITS: u64 = 64;
 
 // This contract ties the constant to the definition.
 pub fn word_bits() -> u64
-    ensures { result ≡ wordBits }
+    ensures { result ≡ word_bits }
 {
     WORD_BITS
 }
@@ -62,7 +62,7 @@ impl Edition {
     }
 
     pub fn is_width(k: u64) -> bool
-        ensures { result ≡ isWidth k }
+        ensures { result ≡ is_width k }
     {
         (1 <= k) & (k <= Self::WIDTH)
     }

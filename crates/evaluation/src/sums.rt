@@ -1,6 +1,6 @@
 // Sums, differences and products modulo 2^k.
 ghost use Rattle.std.specs.Prelude.{◌≡◌, ◌*◌, ◌%◌, ◌^◌};
-ghost use Rattle.edition.specs.Word.{wordBits};
+ghost use Rattle.edition.specs.Word.{word_bits};
 ghost use Rattle.arithmetic.specs.Arithmetic.{computed};
 ghost use Rattle.arithmetic.specs.Evaluable.{NumbersOfBits};
 
@@ -9,7 +9,7 @@ use arithmetic::Arithmetic;
 
 // a * b modulo the size of a word, from products of halves, which fit a word.
 fn product(a: u64, b: u64) -> u64
-    ensures { result ≡ a * b % 2 ^ wordBits }
+    ensures { result ≡ a * b % 2 ^ word_bits }
 {
     let a0 = a & 0xffff_ffff;
     let a1 = a >> 32;

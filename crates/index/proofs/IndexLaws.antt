@@ -5,34 +5,34 @@ use mathlib.Core.Bool.{Bool, true, false}
 use mathlib.Core.List.{List, [], ◌∷◌, map}
 use native.Mathlib.Omega.{arith}
 use borrow.Author.Tests.{eq-eqb, ne_eqb}
-use Rattle.refusal.specs.Lists.{isOneOf}
+use Rattle.refusal.specs.Lists.{is_one_of}
 use Rattle.constraint.specs.declared.Line.{Line}
 use Rattle.constraint.specs.File.{File}
 use Rattle.index.specs.Select.{names, naming}
-use Rattle.index.specs.Index.{numbersFrom, ownList}
+use Rattle.index.specs.Index.{numbers_from, own_list}
 use Rattle.index.specs.AnyIndex.{numbered}
-use Rattle.refusal.proofs.OneOfLaws.{one-of-none, one-of-cons}
+use Rattle.refusal.proofs.OneOfLaws.{one_of_none, one_of_cons}
 use Rattle.index.proofs.SelectLaws.{numbered_below}
 
 -- a number below those of the lines is none of theirs
-not-below : (n m : ℕ) (bs : List Bool) → n < m → isOneOf n (numbersFrom m bs) ≡ false
-unfolding numbersFrom
-not-below n m [] h = one-of-none n
-not-below n m (true ∷ bs) h = rw (one-of-cons n m (numbersFrom (suc m) bs), ne_eqb n m (λ e. omega arith)) (not-below n (suc m) bs (omega arith))
-not-below n m (false ∷ bs) h = not-below n (suc m) bs (omega arith)
+not_below : (n m : ℕ) (bs : List Bool) → n < m → is_one_of n (numbers_from m bs) ≡ false
+unfolding numbers_from
+not_below n m [] h = one_of_none n
+not_below n m (true ∷ bs) h = rw (one_of_cons n m (numbers_from (suc m) bs), ne_eqb n m (λ e. omega arith)) (not_below n (suc m) bs (omega arith))
+not_below n m (false ∷ bs) h = not_below n (suc m) bs (omega arith)
 
 -- the selected lines' numbers select these lines
-pub numbered-own : (g : Line → Bool) (n : ℕ) (ls : List Line) → numbered (numbersFrom n (map g ls)) n ls ≡ map g ls
-unfolding numbered numbersFrom
-numbered-own g n [] = refl
-numbered-own g n (l ∷ ls) = go (g l) refl (numbered-own g (suc n) ls)
+pub numbered_own : (g : Line → Bool) (n : ℕ) (ls : List Line) → numbered (numbers_from n (map g ls)) n ls ≡ map g ls
+unfolding numbered numbers_from
+numbered_own g n [] = refl
+numbered_own g n (l ∷ ls) = go (g l) refl (numbered_own g (suc n) ls)
   where
-    go : (b : Bool) → g l ≡ b → numbered (numbersFrom (suc n) (map g ls)) (suc n) ls ≡ map g ls → numbered (numbersFrom n (g l ∷ map g ls)) n (l ∷ ls) ≡ g l ∷ map g ls
+    go : (b : Bool) → g l ≡ b → numbered (numbers_from (suc n) (map g ls)) (suc n) ls ≡ map g ls → numbered (numbers_from n (g l ∷ map g ls)) n (l ∷ ls) ≡ g l ∷ map g ls
     go true e rest =
-        let ns = numbersFrom (suc n) (map g ls) in
-        rw (e, one-of-cons n n ns, eq-eqb n n refl, numbered_below n (suc n) ns ls (omega arith), rest) refl
-    go false e rest = rw (e, not-below n (suc n) (map g ls) (omega arith), rest) refl
+        let ns = numbers_from (suc n) (map g ls) in
+        rw (e, one_of_cons n n ns, eq-eqb n n refl, numbered_below n (suc n) ns ls (omega arith), rest) refl
+    go false e rest = rw (e, not_below n (suc n) (map g ls) (omega arith), rest) refl
 
-pub own-list-selects : (f : File) (i : ℕ) → numbered (ownList f i) 1 f.lines ≡ naming f i
-unfolding ownList naming
-own-list-selects f i = numbered-own (names i) 1 f.lines
+pub own_list_selects : (f : File) (i : ℕ) → numbered (own_list f i) 1 f.lines ≡ naming f i
+unfolding own_list naming
+own_list_selects f i = numbered_own (names i) 1 f.lines

@@ -5,7 +5,7 @@ use mathlib.Core.Bool.{Bool, true}
 use mathlib.Core.List.{List, [], ◌∷◌}
 use native.Mathlib.Omega.{arith}
 use lib.ListN.{length, get_or}
-use Rattle.refusal.proofs.BoolLaws.{and-true}
+use Rattle.refusal.proofs.BoolLaws.{and_true}
 use Rattle.index.specs.AnyIndex.{neighbours}
 
 module _ (test : ℕ → ℕ → Bool) where
@@ -15,9 +15,9 @@ module _ (test : ℕ → ℕ → Bool) where
   neighbours_at (a ∷ []) h = refl
   neighbours_at (a ∷ b ∷ l) h = rw (h 0 (omega arith)) (neighbours_at (b ∷ l) (λ i q. h (suc i) (omega arith)))
 
-  pub neighbours-get : (l : List ℕ) (i : ℕ) → neighbours test l ≡ true → suc i < length l → test (get_or l i 0) (get_or l (suc i) 0) ≡ true
+  pub neighbours_get : (l : List ℕ) (i : ℕ) → neighbours test l ≡ true → suc i < length l → test (get_or l i 0) (get_or l (suc i) 0) ≡ true
   unfolding neighbours
-  neighbours-get [] i e h = let z : ⊥ = omega arith in absurd z
-  neighbours-get (a ∷ []) i e h = let z : ⊥ = omega arith in absurd z
-  neighbours-get (a ∷ b ∷ l) zero e h = (and-true (test a b) (neighbours test (b ∷ l)) e).0
-  neighbours-get (a ∷ b ∷ l) (suc i) e h = neighbours-get (b ∷ l) i (and-true (test a b) (neighbours test (b ∷ l)) e).1 (omega arith)
+  neighbours_get [] i e h = let z : ⊥ = omega arith in absurd z
+  neighbours_get (a ∷ []) i e h = let z : ⊥ = omega arith in absurd z
+  neighbours_get (a ∷ b ∷ l) zero e h = (and_true (test a b) (neighbours test (b ∷ l)) e).0
+  neighbours_get (a ∷ b ∷ l) (suc i) e h = neighbours_get (b ∷ l) i (and_true (test a b) (neighbours test (b ∷ l)) e).1 (omega arith)

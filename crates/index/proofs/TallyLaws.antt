@@ -9,8 +9,8 @@ use lib.Dec.{eqb}
 use lib.ListN.{length, get_or, take, drop, set, length-set}
 use lib.Seq.{append_snoc, drop-cons, get_or-set_same, get_or-set_other, length-take-le, set_at}
 use borrow.Author.Tests.{eq-eqb, ne_eqb}
-use Rattle.edition.specs.Edition.{maxVariables}
-use Rattle.refusal.proofs.ManyLaws.{one-most}
+use Rattle.edition.specs.Edition.{max_variables}
+use Rattle.refusal.proofs.ManyLaws.{one_most}
 use Rattle.index.specs.Internal.{one, entry_of, sum_to, CountsAtMost, CountsGrown}
 
 -- ---- one count
@@ -21,12 +21,12 @@ module _ (counts : List ℕ) (i : ℕ) where
     | no d ↦ rw (get_or-set_other counts i q (get_or counts i 0 + 1) 0 d, ne_eqb q i d) (omega arith)
   ]
 
-  pub added_none : maxVariables ≤ i → CountsGrown counts (λ q. one (eqb q i)) counts
+  pub added_none : max_variables ≤ i → CountsGrown counts (λ q. one (eqb q i)) counts
   added_none h q l = rw (ne_eqb q i (omega arith)) (omega arith)
 
 -- it stays small
-pub added-most : (before after : List ℕ) (i k : ℕ) → CountsAtMost k before → CountsGrown before (λ q. one (eqb q i)) after → CountsAtMost (k + 1) after
-added-most before after i k h a q l = omega (arith, h q l, a q l, one-most (eqb q i))
+pub added_most : (before after : List ℕ) (i k : ℕ) → CountsAtMost k before → CountsGrown before (λ q. one (eqb q i)) after → CountsAtMost (k + 1) after
+added_most before after i k h a q l = omega (arith, h q l, a q l, one_most (eqb q i))
 
 -- ---- the sums
 pub sum_below : (g : ℕ → ℕ) (i n : ℕ) → i ≤ n → sum_to g i ≤ sum_to g n
@@ -37,9 +37,9 @@ sum_below g i (suc n) h = elim (ℕ_discrete i (suc n)) [
   | no d ↦ omega (arith, sum_below g i n (omega arith))
 ]
 
-pub sum-next : (g : ℕ → ℕ) (i : ℕ) → sum_to g (i + 1) ≡ sum_to g i + g i
+pub sum_next : (g : ℕ → ℕ) (i : ℕ) → sum_to g (i + 1) ≡ sum_to g i + g i
 unfolding sum_to
-sum-next g i = rw (add-one i)
+sum_next g i = rw (add-one i)
 
 -- the first i counts are turned into sums
 pub record Summed (before : List ℕ) (i : ℕ) (counts : List ℕ) (end : ℕ) : Type 0 where
@@ -49,15 +49,15 @@ pub record Summed (before : List ℕ) (i : ℕ) (counts : List ℕ) (end : ℕ) 
   pub left : (q : ℕ) → i ≤ q → get_or counts q 0 ≡ get_or before q 0
 
 module _ (before : List ℕ) where
-  pub summed-start : Summed before 0 before 0
+  pub summed_start : Summed before 0 before 0
   unfolding sum_to
-  summed-start = record { long = refl; sum = refl; done = λ q h. let z : ⊥ = omega arith in absurd z; left = λ q h. refl }
+  summed_start = record { long = refl; sum = refl; done = λ q h. let z : ⊥ = omega arith in absurd z; left = λ q h. refl }
 
   module _ (i : ℕ) (counts : List ℕ) (end : ℕ) (s : Summed before i counts end) (h : i < length before) where
-    pub summed-next : Summed before (i + 1) (set counts i end) (end + get_or counts i 0)
-    summed-next = record {
+    pub summed_next : Summed before (i + 1) (set counts i end) (end + get_or counts i 0)
+    summed_next = record {
       long = length-set counts i end ∙ s.long;
-      sum = omega (arith, s.sum, s.left i (omega arith), sum-next (entry_of before) i);
+      sum = omega (arith, s.sum, s.left i (omega arith), sum_next (entry_of before) i);
       done = λ q l. elim (ℕ_discrete q i) [
         | yes e ↦ rw e (get_or-set_same counts i end 0 (omega (arith, s.long)) ∙ s.sum)
         | no d ↦ get_or-set_other counts i q end 0 d ∙ s.done q (omega arith)
@@ -66,5 +66,5 @@ module _ (before : List ℕ) where
     }
 
 -- ---- the first numbers put in front of a table, and one behind them
-pub front-last : (firsts table : List ℕ) (n x : ℕ) → n ≤ length firsts → n < length table → set (take n firsts ++ drop n table) n x ≡ (take n firsts ++ (x ∷ [])) ++ drop (suc n) table
-front-last firsts table n x h k = rw (drop-cons table n 0 k) (set_at (take n firsts) (get_or table n 0) (drop (suc n) table) x n (length-take-le n firsts h) ∙ sym (append_snoc (take n firsts) x (drop (suc n) table)))
+pub front_last : (firsts table : List ℕ) (n x : ℕ) → n ≤ length firsts → n < length table → set (take n firsts ++ drop n table) n x ≡ (take n firsts ++ (x ∷ [])) ++ drop (suc n) table
+front_last firsts table n x h k = rw (drop-cons table n 0 k) (set_at (take n firsts) (get_or table n 0) (drop (suc n) table) x n (length-take-le n firsts h) ∙ sym (append_snoc (take n firsts) x (drop (suc n) table)))

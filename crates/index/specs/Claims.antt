@@ -3,9 +3,9 @@ use Rattle.std.specs.Prelude.{ℕ, ◌≤◌, ◌≡◌, List, length, take}
 use Rattle.std.proofs.Math.Option.{Option, none, some}
 use Rattle.refusal.specs.Result.{accepted}
 use Rattle.constraint.specs.File.{File}
-use Rattle.constraint.specs.Read.{readFile}
+use Rattle.constraint.specs.Read.{read_file}
 use Rattle.index.specs.declared.IndexReply.TheVariants.{Indexed}
-use Rattle.index.specs.Index.{Index, index_of, ownIndex, indexOutcome}
+use Rattle.index.specs.Index.{Index, index_of, own_index, index_outcome}
 
 -- entries stand in front of a table
 abbrev pub StandsInFront : List ℕ → List ℕ → Type 0
@@ -13,8 +13,8 @@ StandsInFront table entries = entries ≡ take (length entries) table
 
 -- "the file's own" index: its entries in use are the file's; both tables may be longer
 pub record IsOwn (f : File) (x : Index) : Type 0 where
-  pub starts : StandsInFront x.starts (ownIndex f).starts
-  pub lists : StandsInFront x.lists (ownIndex f).lists
+  pub starts : StandsInFront x.starts (own_index f).starts
+  pub lists : StandsInFront x.lists (own_index f).lists
 
 -- "no index or the file's own"
 abbrev pub OwnOrNone : File → Option Index → Type 0
@@ -25,13 +25,13 @@ OwnOrNone f (some x) = IsOwn f x
 abbrev pub BuiltIsOwn : Type 0
 BuiltIsOwn =
     (constraint starts lists : List ℕ) (f : File) (n : ℕ)
-    → readFile constraint ≡ accepted f
-    → (indexOutcome constraint starts lists).reply ≡ Indexed n
-    → IsOwn f (index_of (indexOutcome constraint starts lists).starts (indexOutcome constraint starts lists).lists)
+    → read_file constraint ≡ accepted f
+    → (index_outcome constraint starts lists).reply ≡ Indexed n
+    → IsOwn f (index_of (index_outcome constraint starts lists).starts (index_outcome constraint starts lists).lists)
 
 -- "4,096 in all at most"
-abbrev pub maxListed : ℕ
-maxListed = 4096
+abbrev pub max_listed : ℕ
+max_listed = 4096
 
 abbrev pub ListsAtMost : Type 0
-ListsAtMost = (constraint : List ℕ) (f : File) → readFile constraint ≡ accepted f → length (ownIndex f).lists ≤ maxListed
+ListsAtMost = (constraint : List ℕ) (f : File) → read_file constraint ≡ accepted f → length (own_index f).lists ≤ max_listed

@@ -1,16 +1,16 @@
 // The index of the file in the tables: how many lines name each variable, where its list starts, and the lists.
 ghost use Rattle.std.specs.Prelude.{◌≡◌, [], ◌∷◌, ◌++◌, ℕ, suc, ◌+◌, ◌≤◌, ◌<◌, eqb, length, get_or, take, drop};
-ghost use Rattle.edition.specs.Edition.{maxVariables, maxLines};
-ghost use Rattle.refusal.specs.Lists.{howMany};
-ghost use Rattle.refusal.specs.Numbers.{tooShort};
+ghost use Rattle.edition.specs.Edition.{max_variables, max_lines};
+ghost use Rattle.refusal.specs.Lists.{how_many};
+ghost use Rattle.refusal.specs.Numbers.{too_short};
 ghost use Rattle.refusal.specs.Result.{refusal};
 ghost use Rattle.constraint.specs.File.{File};
-ghost use Rattle.store.specs.Tables.{tableHeads, tableBodies, lineIn, linesIn};
+ghost use Rattle.store.specs.Tables.{table_heads, table_bodies, line_in, lines_in};
 ghost use Rattle.index.specs.declared.IndexReply.TheVariants.{Refused};
 ghost use Rattle.index.specs.Select.{names};
-ghost use Rattle.index.specs.Index.{ownLists, ownStart};
-ghost use Rattle.index.specs.Claims.{maxListed};
-ghost use Rattle.index.specs.Internal.{one, entry_of, heldFile, sum_to, CountsAtMost, CountsGrown, ListRoom, LinePut, indexFor};
+ghost use Rattle.index.specs.Index.{own_lists, own_start};
+ghost use Rattle.index.specs.Claims.{max_listed};
+ghost use Rattle.index.specs.Internal.{one, entry_of, held_file, sum_to, CountsAtMost, CountsGrown, ListRoom, LinePut, index_for};
 
 use super::IndexReply;
 use super::naming::variables_of;
@@ -20,8 +20,8 @@ use store::lines::{TABLE_BODIES, TABLE_HEADS};
 
 // One line more for variable i; NONE has no count.
 fn count_one(counts: &mut [u32; Edition::VARIABLES], i: usize)
-    requires { (length counts.old ≡ maxVariables) × (i < maxVariables → get_or counts.old i 0 < maxListed) }
-    ensures { (length counts.new ≡ maxVariables) × CountsGrown counts.old (λ q. one (eqb q i)) counts.new }
+    requires { (length counts.old ≡ max_variables) × (i < max_variables → get_or counts.old i 0 < max_listed) }
+    ensures { (length counts.new ≡ max_variables) × CountsGrown counts.old (λ q. one (eqb q i)) counts.new }
 {
     if i < Edition::VARIABLES {
         counts[i] += 1;
@@ -35,8 +35,8 @@ fn count_line<'a>(
     bodies: &'a [u64; TABLE_BODIES],
     k: usize,
 )
-    requires { (length counts.old ≡ maxVariables) × (length heads.now ≡ tableHeads) × (length bodies.now ≡ tableBodies) × (k < maxLines) × CountsAtMost k counts.old }
-    ensures { (length counts.new ≡ maxVariables) × CountsGrown counts.old (λ q. one (names q (lineIn heads.now bodies.now k))) counts.new }
+    requires { (length counts.old ≡ max_variables) × (length heads.now ≡ table_heads) × (length bodies.now ≡ table_bodies) × (k < max_lines) × CountsAtMost k counts.old }
+    ensures { (length counts.new ≡ max_variables) × CountsGrown counts.old (λ q. one (names q (line_in heads.now bodies.now k))) counts.new }
 {
     let line = variables_of(heads, bodies, k);
     count_one(counts, line.output);
@@ -52,8 +52,8 @@ fn count<'a>(
     bodies: &'a [u64; TABLE_BODIES],
     m: usize,
 )
-    requires { (length counts.old ≡ maxVariables) × (length heads.now ≡ tableHeads) × (length bodies.now ≡ tableBodies) × (m ≤ maxLines) × ((q : ℕ) → q < maxVariables → get_or counts.old q 0 ≡ 0) }
-    ensures { (length counts.new ≡ maxVariables) × ((q : ℕ) → q < maxVariables → get_or counts.new q 0 ≡ howMany (names q) (linesIn heads.now bodies.now m)) }
+    requires { (length counts.old ≡ max_variables) × (length heads.now ≡ table_heads) × (length bodies.now ≡ table_bodies) × (m ≤ max_lines) × ((q : ℕ) → q < max_variables → get_or counts.old q 0 ≡ 0) }
+    ensures { (length counts.new ≡ max_variables) × ((q : ℕ) → q < max_variables → get_or counts.new q 0 ≡ how_many (names q) (lines_in heads.now bodies.now m)) }
 {
     let mut k = 0;
     while k < m {
@@ -64,8 +64,8 @@ fn count<'a>(
 
 // Turns the counts of n variables into where their lists start; the end of the last.
 fn accumulate(counts: &mut [u32; Edition::VARIABLES], n: usize) -> u32
-    requires { (length counts.old ≡ maxVariables) × (n ≤ maxVariables) × (sum_to (entry_of counts.old) n ≤ maxListed) }
-    ensures { (length counts.new ≡ maxVariables) × (result ≡ sum_to (entry_of counts.old) n) × ((q : ℕ) → q < n → get_or counts.new q 0 ≡ sum_to (entry_of counts.old) q) }
+    requires { (length counts.old ≡ max_variables) × (n ≤ max_variables) × (sum_to (entry_of counts.old) n ≤ max_listed) }
+    ensures { (length counts.new ≡ max_variables) × (result ≡ sum_to (entry_of counts.old) n) × ((q : ℕ) → q < n → get_or counts.new q 0 ≡ sum_to (entry_of counts.old) q) }
 {
     let mut end = 0;
     let mut i = 0;
@@ -80,7 +80,7 @@ fn accumulate(counts: &mut [u32; Edition::VARIABLES], n: usize) -> u32
 
 // Puts the starts of n variables and the end at the front of the lent table.
 fn put_starts(firsts: &[u32; Edition::VARIABLES], n: usize, end: u32, starts: &mut [u32])
-    requires { (length firsts.now ≡ maxVariables) × (n ≤ maxVariables) × (n < length starts.old) }
+    requires { (length firsts.now ≡ max_variables) × (n ≤ max_variables) × (n < length starts.old) }
     ensures { starts.new ≡ (take n firsts.now ++ (end ∷ [])) ++ drop (suc n) starts.old }
 {
     let mut i = 0;
@@ -93,7 +93,7 @@ fn put_starts(firsts: &[u32; Edition::VARIABLES], n: usize, end: u32, starts: &m
 
 // Puts a line's number into the list of variable i, of n, where `next` says.
 fn list_one(lists: &mut [u32], next: &mut [u32; Edition::VARIABLES], n: usize, i: usize, line: u32)
-    requires { (length next.old ≡ maxVariables) × (n ≤ maxVariables) × ListRoom n (λ q. one (eqb q i)) next.old lists.old }
+    requires { (length next.old ≡ max_variables) × (n ≤ max_variables) × ListRoom n (λ q. one (eqb q i)) next.old lists.old }
     ensures { LinePut n (λ q. one (eqb q i)) line next.old lists.old next.new lists.new }
 {
     if i < n {
@@ -112,8 +112,8 @@ fn list_line<'a>(
     n: usize,
     k: usize,
 )
-    requires { (length next.old ≡ maxVariables) × (length heads.now ≡ tableHeads) × (length bodies.now ≡ tableBodies) × (n ≤ maxVariables) × (k < maxLines) × ListRoom n (λ q. one (names q (lineIn heads.now bodies.now k))) next.old lists.old }
-    ensures { LinePut n (λ q. one (names q (lineIn heads.now bodies.now k))) (k + 1) next.old lists.old next.new lists.new }
+    requires { (length next.old ≡ max_variables) × (length heads.now ≡ table_heads) × (length bodies.now ≡ table_bodies) × (n ≤ max_variables) × (k < max_lines) × ListRoom n (λ q. one (names q (line_in heads.now bodies.now k))) next.old lists.old }
+    ensures { LinePut n (λ q. one (names q (line_in heads.now bodies.now k))) (k + 1) next.old lists.old next.new lists.new }
 {
     let line = variables_of(heads, bodies, k);
     let number = k as u32 + 1;
@@ -132,8 +132,8 @@ fn list_all<'a>(
     n: usize,
     m: usize,
 )
-    requires { (length next.old ≡ maxVariables) × (length heads.now ≡ tableHeads) × (length bodies.now ≡ tableBodies) × (n ≤ maxVariables) × (m ≤ maxLines) × ((q : ℕ) → q < n → get_or next.old q 0 ≡ ownStart (heldFile heads.now bodies.now m) q) × (ownStart (heldFile heads.now bodies.now m) n ≤ length lists.old) }
-    ensures { lists.new ≡ ownLists (heldFile heads.now bodies.now m) n ++ drop (ownStart (heldFile heads.now bodies.now m) n) lists.old }
+    requires { (length next.old ≡ max_variables) × (length heads.now ≡ table_heads) × (length bodies.now ≡ table_bodies) × (n ≤ max_variables) × (m ≤ max_lines) × ((q : ℕ) → q < n → get_or next.old q 0 ≡ own_start (held_file heads.now bodies.now m) q) × (own_start (held_file heads.now bodies.now m) n ≤ length lists.old) }
+    ensures { lists.new ≡ own_lists (held_file heads.now bodies.now m) n ++ drop (own_start (held_file heads.now bodies.now m) n) lists.old }
 {
     let mut k = 0;
     while k < m {
@@ -151,8 +151,8 @@ pub(crate) fn index_held<'a>(
     starts: &mut [u32],
     lists: &mut [u32],
 ) -> IndexReply
-    requires { (length heads.now ≡ tableHeads) × (length bodies.now ≡ tableBodies) × (n ≤ maxVariables) × (m ≤ maxLines) }
-    ensures { (f : File) → length f.variables ≡ n → f.lines ≡ linesIn heads.now bodies.now m → record { reply = result; starts = starts.new; lists = lists.new } ≡ indexFor f starts.old lists.old }
+    requires { (length heads.now ≡ table_heads) × (length bodies.now ≡ table_bodies) × (n ≤ max_variables) × (m ≤ max_lines) }
+    ensures { (f : File) → length f.variables ≡ n → f.lines ≡ lines_in heads.now bodies.now m → record { reply = result; starts = starts.new; lists = lists.new } ≡ index_for f starts.old lists.old }
 {
     if starts.len() <= n {
         return refused(Subject::Starts);
@@ -170,7 +170,7 @@ pub(crate) fn index_held<'a>(
 
 // The room for a table of the index is too short.
 fn refused(subject: Subject) -> IndexReply
-    ensures { result ≡ Refused (refusal subject tooShort 0) }
+    ensures { result ≡ Refused (refusal subject too_short 0) }
 {
     IndexReply::Refused(Refusal {
         number: Refusal::TOO_SHORT,

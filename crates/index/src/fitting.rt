@@ -1,8 +1,8 @@
 // Whether an index fits a file of n variables and m lines.
 ghost use Rattle.std.specs.Prelude.{◌≡◌, ◌<◌, min, length, take, drop};
 ghost use Rattle.index.specs.Index.{index_of};
-ghost use Rattle.index.specs.AnyIndex.{startsFit, listFits, listsFit, indexFitsFor};
-ghost use Rattle.index.specs.Internal.{faultResult};
+ghost use Rattle.index.specs.AnyIndex.{starts_fit, list_fits, lists_fit, index_fits_for};
+ghost use Rattle.index.specs.Internal.{fault_result};
 
 use super::IndexFault;
 
@@ -15,7 +15,7 @@ pub fn lesser(a: usize, b: usize) -> usize
 
 // Whether no start, or the end, is missing, falls or passes the room.
 fn starts_fit(starts: &[u32], lists: &[u32], n: usize) -> bool
-    ensures { result ≡ startsFit n (index_of starts.now lists.now) }
+    ensures { result ≡ starts_fit n (index_of starts.now lists.now) }
 {
     if starts.len() <= n {
         return false;
@@ -38,7 +38,7 @@ fn starts_fit(starts: &[u32], lists: &[u32], n: usize) -> bool
 
 // Whether the list from one place up to another rises, with line numbers from 1 to m. The last is the largest, so it alone is held against m.
 fn list_fits(lists: &[u32], from: usize, to: usize, m: usize) -> bool
-    ensures { result ≡ listFits m (drop from (take to lists.now)) }
+    ensures { result ≡ list_fits m (drop from (take to lists.now)) }
 {
     let end = lesser(to, lists.len());
     let mut last = 0u32;
@@ -57,7 +57,7 @@ fn list_fits(lists: &[u32], from: usize, to: usize, m: usize) -> bool
 // Whether each variable's list does.
 fn lists_fit(starts: &[u32], lists: &[u32], n: usize, m: usize) -> bool
     requires { n < length starts.now }
-    ensures { result ≡ listsFit n m (index_of starts.now lists.now) }
+    ensures { result ≡ lists_fit n m (index_of starts.now lists.now) }
 {
     let mut i = 0;
     while i < n {
@@ -73,7 +73,7 @@ fn lists_fit(starts: &[u32], lists: &[u32], n: usize, m: usize) -> bool
 
 // The test of a whole index: of the starts, then of the lists.
 pub fn index_fault(starts: &[u32], lists: &[u32], n: usize, m: usize) -> IndexFault
-    ensures { faultResult result ≡ indexFitsFor n m (index_of starts.now lists.now) }
+    ensures { fault_result result ≡ index_fits_for n m (index_of starts.now lists.now) }
 {
     if starts_fit(starts, lists, n) {
         if lists_fit(starts, lists, n, m) {

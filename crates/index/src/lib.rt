@@ -1,6 +1,6 @@
 // The index of a constraint file: which lines name a variable.
 ghost use Rattle.std.specs.Prelude.{◌≡◌};
-ghost use Rattle.index.specs.Index.{indexOutcome};
+ghost use Rattle.index.specs.Index.{index_outcome};
 
 use building::index_held;
 use edition::Edition;
@@ -40,7 +40,7 @@ pub struct LineVariables {
 
 // Builds the index of a constraint file, any bytes: where each variable's list starts, with the end of the last, and the lists.
 pub fn index(constraint: &[u8], starts: &mut [u32], lists: &mut [u32]) -> IndexReply
-    ensures { record { reply = result; starts = starts.new; lists = lists.new } ≡ indexOutcome constraint.now starts.old lists.old }
+    ensures { record { reply = result; starts = starts.new; lists = lists.new } ≡ index_outcome constraint.now starts.old lists.old }
 {
     let mut variables = [0u64; Edition::VARIABLES];
     let mut heads = [0u8; TABLE_HEADS];

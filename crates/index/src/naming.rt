@@ -1,9 +1,9 @@
 // Which variables a line in the table names.
 ghost use Rattle.std.specs.Prelude.{◌≡◌, cond, ℕ, ◌<◌, eqb, length};
-ghost use Rattle.edition.specs.Edition.{maxVariables, maxLines};
-ghost use Rattle.store.specs.Tables.{lineBodies, tableHeads, tableBodies, operandIn, lineIn};
-ghost use Rattle.index.specs.Select.{isVariable, names as namesIn};
-ghost use Rattle.index.specs.Internal.{one, timesNamed};
+ghost use Rattle.edition.specs.Edition.{max_variables, max_lines};
+ghost use Rattle.store.specs.Tables.{line_bodies, table_heads, table_bodies, operand_in, line_in};
+ghost use Rattle.index.specs.Select.{is_variable, names as namesIn};
+ghost use Rattle.index.specs.Internal.{one, times_named};
 
 use super::LineVariables;
 use edition::Edition;
@@ -22,8 +22,8 @@ fn named_at<'a>(
     k: usize,
     slot: usize,
 ) -> bool
-    requires { (length heads.now ≡ tableHeads) × (length bodies.now ≡ tableBodies) × (k < maxLines) × (slot < lineBodies) }
-    ensures { result ≡ isVariable i (operandIn heads.now bodies.now k slot) }
+    requires { (length heads.now ≡ table_heads) × (length bodies.now ≡ table_bodies) × (k < max_lines) × (slot < line_bodies) }
+    ensures { result ≡ is_variable i (operand_in heads.now bodies.now k slot) }
 {
     let variable = is_variable(head_of(heads, k, slot));
     let j = body_of(bodies, k, slot) as usize;
@@ -37,8 +37,8 @@ pub fn names<'a>(
     bodies: &'a [u64; TABLE_BODIES],
     k: usize,
 ) -> bool
-    requires { (length heads.now ≡ tableHeads) × (length bodies.now ≡ tableBodies) × (k < maxLines) }
-    ensures { result ≡ namesIn i (lineIn heads.now bodies.now k) }
+    requires { (length heads.now ≡ table_heads) × (length bodies.now ≡ table_bodies) × (k < max_lines) }
+    ensures { result ≡ namesIn i (line_in heads.now bodies.now k) }
 {
     let a = named_at(i, heads, bodies, k, OUTPUT);
     let b = named_at(i, heads, bodies, k, FIRST);
@@ -54,8 +54,8 @@ fn variable_at<'a>(
     k: usize,
     slot: usize,
 ) -> usize
-    requires { (length heads.now ≡ tableHeads) × (length bodies.now ≡ tableBodies) × (k < maxLines) × (slot < lineBodies) }
-    ensures { (i : ℕ) → i < maxVariables → eqb i result ≡ isVariable i (operandIn heads.now bodies.now k slot) }
+    requires { (length heads.now ≡ table_heads) × (length bodies.now ≡ table_bodies) × (k < max_lines) × (slot < line_bodies) }
+    ensures { (i : ℕ) → i < max_variables → eqb i result ≡ is_variable i (operand_in heads.now bodies.now k slot) }
 {
     if is_variable(head_of(heads, k, slot)) {
         return body_of(bodies, k, slot) as usize;
@@ -65,7 +65,7 @@ fn variable_at<'a>(
 
 // A variable, or NONE where it is named already.
 fn unless(named: bool, i: usize) -> usize
-    ensures { result ≡ cond named maxVariables i }
+    ensures { result ≡ cond named max_variables i }
 {
     if named { NONE } else { i }
 }
@@ -76,8 +76,8 @@ pub(crate) fn variables_of<'a>(
     bodies: &'a [u64; TABLE_BODIES],
     k: usize,
 ) -> LineVariables
-    requires { (length heads.now ≡ tableHeads) × (length bodies.now ≡ tableBodies) × (k < maxLines) }
-    ensures { (i : ℕ) → i < maxVariables → timesNamed i result ≡ one (namesIn i (lineIn heads.now bodies.now k)) }
+    requires { (length heads.now ≡ table_heads) × (length bodies.now ≡ table_bodies) × (k < max_lines) }
+    ensures { (i : ℕ) → i < max_variables → times_named i result ≡ one (namesIn i (line_in heads.now bodies.now k)) }
 {
     let a = variable_at(heads, bodies, k, OUTPUT);
     let b = variable_at(heads, bodies, k, FIRST);

@@ -11,62 +11,62 @@ use Rattle.arithmetic.specs.Rules.{i1}
 use Rattle.constraint.specs.declared.Operand.{Operand}
 use Rattle.constraint.specs.declared.Operand.TheVariants.{Absent, Var, Const}
 use Rattle.constraint.specs.File.{Variable, operand_word, target}
-use Rattle.constraint.specs.TypeRules.{ruleWord}
-use Rattle.store.specs.Tables.{lineBodies, variableMark, operandOf, headWidth, headAt, body_at, operandIn, lineIn, HeadsFit}
-use Rattle.store.proofs.LineTableLaws.{operand-absent, operand-variable, operand-constant}
+use Rattle.constraint.specs.TypeRules.{rule_word}
+use Rattle.store.specs.Tables.{line_bodies, variable_mark, operand_of, head_width, head_at, body_at, operand_in, line_in, HeadsFit}
+use Rattle.store.proofs.LineTableLaws.{operand_absent, operand_variable, operand_constant}
 use Rattle.judge.specs.Judge.{result_of, judge}
 
 -- ---- the operand of a head and a body
 module _ (head body : ℕ) where
-  pub of-variable : leb variableMark head ≡ true → operandOf head body ≡ Var body
-  of-variable e = operand-variable head body (leb-true variableMark head e)
+  pub of_variable : leb variable_mark head ≡ true → operand_of head body ≡ Var body
+  of_variable e = operand_variable head body (leb-true variable_mark head e)
 
-  pub of-constant : leb variableMark head ≡ false → (head ≡ 0 → ⊥) → operandOf head body ≡ Const (record { width = head; value = body })
-  of-constant e n = operand-constant head body (omega arith) (leb-false variableMark head e)
+  pub of_constant : leb variable_mark head ≡ false → (head ≡ 0 → ⊥) → operand_of head body ≡ Const (record { width = head; value = body })
+  of_constant e n = operand_constant head body (omega arith) (leb-false variable_mark head e)
 
 -- ---- the operand at a slot of a stored line
 module _ (row heads bodies : List ℕ) (k slot : ℕ) where
   -- its word, of the width in its head
-  module _ (h : slot < lineBodies) where
-    pub word-variable : leb variableMark (headAt heads k slot) ≡ true → (xs : List Variable) → HeadsFit xs heads bodies k → record { width = headWidth (headAt heads k slot); value = get_or row (body_at bodies k slot) 0 } ≡ operand_word xs row (operandIn heads bodies k slot)
-    unfolding operand_word ruleWord operandIn
-    word-variable e xs f = rw (← (f slot h), of-variable (headAt heads k slot) (body_at bodies k slot) e)
+  module _ (h : slot < line_bodies) where
+    pub word_variable : leb variable_mark (head_at heads k slot) ≡ true → (xs : List Variable) → HeadsFit xs heads bodies k → record { width = head_width (head_at heads k slot); value = get_or row (body_at bodies k slot) 0 } ≡ operand_word xs row (operand_in heads bodies k slot)
+    unfolding operand_word rule_word operand_in
+    word_variable e xs f = rw (← (f slot h), of_variable (head_at heads k slot) (body_at bodies k slot) e)
 
-    pub word-constant : leb variableMark (headAt heads k slot) ≡ false → (headAt heads k slot ≡ 0 → ⊥) → (xs : List Variable) → HeadsFit xs heads bodies k → record { width = headWidth (headAt heads k slot); value = body_at bodies k slot } ≡ operand_word xs row (operandIn heads bodies k slot)
-    unfolding operand_word ruleWord operandIn
-    word-constant e n xs f = rw (← (f slot h), of-constant (headAt heads k slot) (body_at bodies k slot) e n)
+    pub word_constant : leb variable_mark (head_at heads k slot) ≡ false → (head_at heads k slot ≡ 0 → ⊥) → (xs : List Variable) → HeadsFit xs heads bodies k → record { width = head_width (head_at heads k slot); value = body_at bodies k slot } ≡ operand_word xs row (operand_in heads bodies k slot)
+    unfolding operand_word rule_word operand_in
+    word_constant e n xs f = rw (← (f slot h), of_constant (head_at heads k slot) (body_at bodies k slot) e n)
 
-    pub word-absent : headAt heads k slot ≡ 0 → (xs : List Variable) → HeadsFit xs heads bodies k → record { width = headWidth (headAt heads k slot); value = 0 } ≡ operand_word xs row (operandIn heads bodies k slot)
-    unfolding operand_word ruleWord operandIn
-    word-absent e xs f = rw (← (f slot h), operand-absent (headAt heads k slot) (body_at bodies k slot) e)
+    pub word_absent : head_at heads k slot ≡ 0 → (xs : List Variable) → HeadsFit xs heads bodies k → record { width = head_width (head_at heads k slot); value = 0 } ≡ operand_word xs row (operand_in heads bodies k slot)
+    unfolding operand_word rule_word operand_in
+    word_absent e xs f = rw (← (f slot h), operand_absent (head_at heads k slot) (body_at bodies k slot) e)
 
   -- what it asks of the operator, as an output
-  pub target-absent : headAt heads k slot ≡ 0 → (xs : List Variable) → record { width = i1; value = 1 } ≡ target xs row (operandIn heads bodies k slot)
-  unfolding target operandIn
-  target-absent e xs = rw (operand-absent (headAt heads k slot) (body_at bodies k slot) e)
+  pub target_absent : head_at heads k slot ≡ 0 → (xs : List Variable) → record { width = i1; value = 1 } ≡ target xs row (operand_in heads bodies k slot)
+  unfolding target operand_in
+  target_absent e xs = rw (operand_absent (head_at heads k slot) (body_at bodies k slot) e)
 
-  pub target-there : (t : Bool) → leb variableMark (headAt heads k slot) ≡ t → (headAt heads k slot ≡ 0 → ⊥) → (xs : List Variable) → operand_word xs row (operandIn heads bodies k slot) ≡ target xs row (operandIn heads bodies k slot)
-  unfolding target operand_word operandIn
-  target-there true e n xs = rw (of-variable (headAt heads k slot) (body_at bodies k slot) e)
-  target-there false e n xs = rw (of-constant (headAt heads k slot) (body_at bodies k slot) e n)
+  pub target_there : (t : Bool) → leb variable_mark (head_at heads k slot) ≡ t → (head_at heads k slot ≡ 0 → ⊥) → (xs : List Variable) → operand_word xs row (operand_in heads bodies k slot) ≡ target xs row (operand_in heads bodies k slot)
+  unfolding target operand_word operand_in
+  target_there true e n xs = rw (of_variable (head_at heads k slot) (body_at bodies k slot) e)
+  target_there false e n xs = rw (of_constant (head_at heads k slot) (body_at bodies k slot) e n)
 
 -- ---- operands of the same widths among other variables are the same
 module _ (xs ys : List Variable) (row : List ℕ) where
-  word-alike : (o : Operand) → (ruleWord xs o).width ≡ (ruleWord ys o).width → operand_word xs row o ≡ operand_word ys row o
-  unfolding operand_word ruleWord
-  word-alike Absent e = refl
-  word-alike (Var i) e = rw e
-  word-alike (Const w) e = refl
+  word_alike : (o : Operand) → (rule_word xs o).width ≡ (rule_word ys o).width → operand_word xs row o ≡ operand_word ys row o
+  unfolding operand_word rule_word
+  word_alike Absent e = refl
+  word_alike (Var i) e = rw e
+  word_alike (Const w) e = refl
 
-  target-alike : (o : Operand) → (ruleWord xs o).width ≡ (ruleWord ys o).width → target xs row o ≡ target ys row o
+  target_alike : (o : Operand) → (rule_word xs o).width ≡ (rule_word ys o).width → target xs row o ≡ target ys row o
   unfolding target
-  target-alike Absent e = refl
-  target-alike (Var i) e = word-alike (Var i) e
-  target-alike (Const w) e = refl
+  target_alike Absent e = refl
+  target_alike (Var i) e = word_alike (Var i) e
+  target_alike (Const w) e = refl
 
   -- so the heads of a stored line settle how it is judged
-  pub judge-alike : (heads bodies : List ℕ) (k : ℕ) → HeadsFit xs heads bodies k → HeadsFit ys heads bodies k → judge xs row (lineIn heads bodies k) ≡ judge ys row (lineIn heads bodies k)
-  unfolding judge result_of lineIn
-  judge-alike heads bodies k f g =
-      let same : (slot : ℕ) → slot < lineBodies → (ruleWord xs (operandIn heads bodies k slot)).width ≡ (ruleWord ys (operandIn heads bodies k slot)).width = λ slot h. f slot h ∙ sym (g slot h) in
-      rw (word-alike _ (same 1 (omega arith)), word-alike _ (same 2 (omega arith)), word-alike _ (same 3 (omega arith)), target-alike _ (same 0 (omega arith)))
+  pub judge_alike : (heads bodies : List ℕ) (k : ℕ) → HeadsFit xs heads bodies k → HeadsFit ys heads bodies k → judge xs row (line_in heads bodies k) ≡ judge ys row (line_in heads bodies k)
+  unfolding judge result_of line_in
+  judge_alike heads bodies k f g =
+      let same : (slot : ℕ) → slot < line_bodies → (rule_word xs (operand_in heads bodies k slot)).width ≡ (rule_word ys (operand_in heads bodies k slot)).width = λ slot h. f slot h ∙ sym (g slot h) in
+      rw (word_alike _ (same 1 (omega arith)), word_alike _ (same 2 (omega arith)), word_alike _ (same 3 (omega arith)), target_alike _ (same 0 (omega arith)))

@@ -6,49 +6,49 @@ use lib.ListN.{length}
 use borrow.Author.Tests.{le-leb, lt-leb, leb-true}
 use Rattle.refusal.specs.declared.Refusal.{Refusal}
 use Rattle.refusal.specs.declared.Subject.TheVariants.{Values, Verdicts, Results}
-use Rattle.refusal.specs.Numbers.{tooShort}
+use Rattle.refusal.specs.Numbers.{too_short}
 use Rattle.refusal.specs.Result.{accepted, refused, refusal}
-use Rattle.refusal.proofs.ResultLaws.{ensure-accepted, test-accepted}
-use Rattle.refusal.proofs.RefusesLaws.{Refuses, refuses-ensure, refuses-test}
+use Rattle.refusal.proofs.ResultLaws.{ensure_accepted, test_accepted}
+use Rattle.refusal.proofs.RefusesLaws.{Refuses, refuses_ensure, refuses_test}
 use Rattle.constraint.specs.File.{File}
-use Rattle.judge.specs.InUse.{Room, EnoughRoom, tablesRoom}
+use Rattle.judge.specs.InUse.{Room, EnoughRoom, tables_room}
 
 module _ (f : File) (lent : Room) where
   -- ---- the first that fails decides
-  pub values-short : lent.values < length f.variables → refused (refusal Values tooShort 0) ≡ tablesRoom f lent
-  unfolding tablesRoom
-  values-short h = rw (lt-leb (length f.variables) lent.values h)
+  pub values_short : lent.values < length f.variables → refused (refusal Values too_short 0) ≡ tables_room f lent
+  unfolding tables_room
+  values_short h = rw (lt-leb (length f.variables) lent.values h)
 
   module _ (a : length f.variables ≤ lent.values) where
-    pub verdicts-short : lent.verdicts < length f.lines → refused (refusal Verdicts tooShort 0) ≡ tablesRoom f lent
-    unfolding tablesRoom
-    verdicts-short h = rw (le-leb (length f.variables) lent.values a, lt-leb (length f.lines) lent.verdicts h)
+    pub verdicts_short : lent.verdicts < length f.lines → refused (refusal Verdicts too_short 0) ≡ tables_room f lent
+    unfolding tables_room
+    verdicts_short h = rw (le-leb (length f.variables) lent.values a, lt-leb (length f.lines) lent.verdicts h)
 
     module _ (b : length f.lines ≤ lent.verdicts) where
-      pub results-short : lent.results < length f.lines → refused (refusal Results tooShort 0) ≡ tablesRoom f lent
-      unfolding tablesRoom
-      results-short h = rw (le-leb (length f.variables) lent.values a, le-leb (length f.lines) lent.verdicts b, lt-leb (length f.lines) lent.results h)
+      pub results_short : lent.results < length f.lines → refused (refusal Results too_short 0) ≡ tables_room f lent
+      unfolding tables_room
+      results_short h = rw (le-leb (length f.variables) lent.values a, le-leb (length f.lines) lent.verdicts b, lt-leb (length f.lines) lent.results h)
 
   -- ---- all pass exactly where there is room
-  pub room-accepted : EnoughRoom f lent → accepted tt ≡ tablesRoom f lent
-  unfolding tablesRoom
-  room-accepted h = rw (le-leb (length f.variables) lent.values h.values, le-leb (length f.lines) lent.verdicts h.verdicts, le-leb (length f.lines) lent.results h.results)
+  pub room_accepted : EnoughRoom f lent → accepted tt ≡ tables_room f lent
+  unfolding tables_room
+  room_accepted h = rw (le-leb (length f.variables) lent.values h.values, le-leb (length f.lines) lent.verdicts h.verdicts, le-leb (length f.lines) lent.results h.results)
 
-  pub accepted-room : tablesRoom f lent ≡ accepted tt → EnoughRoom f lent
-  unfolding tablesRoom
-  accepted-room e =
-      let a = ensure-accepted (leb (length f.variables) lent.values) _ _ tt e in
-      let b = ensure-accepted (leb (length f.lines) lent.verdicts) _ _ tt a.1 in
+  pub accepted_room : tables_room f lent ≡ accepted tt → EnoughRoom f lent
+  unfolding tables_room
+  accepted_room e =
+      let a = ensure_accepted (leb (length f.variables) lent.values) _ _ tt e in
+      let b = ensure_accepted (leb (length f.lines) lent.verdicts) _ _ tt a.1 in
       record {
         values = leb-true (length f.variables) lent.values a.0;
         verdicts = leb-true (length f.lines) lent.verdicts b.0;
-        results = leb-true (length f.lines) lent.results (test-accepted (leb (length f.lines) lent.results) _ b.1);
+        results = leb-true (length f.lines) lent.results (test_accepted (leb (length f.lines) lent.results) _ b.1);
       }
 
   -- ---- what holds of each refusal
-  pub room-refuses : {P : Refusal → Type 0} → P (refusal Values tooShort 0) → P (refusal Verdicts tooShort 0) → P (refusal Results tooShort 0) → Refuses P (tablesRoom f lent)
-  unfolding tablesRoom
-  room-refuses p q r =
-      refuses-ensure (leb (length f.variables) lent.values) _ p (
-      refuses-ensure (leb (length f.lines) lent.verdicts) _ q
-      (refuses-test (leb (length f.lines) lent.results) _ r))
+  pub room_refuses : {P : Refusal → Type 0} → P (refusal Values too_short 0) → P (refusal Verdicts too_short 0) → P (refusal Results too_short 0) → Refuses P (tables_room f lent)
+  unfolding tables_room
+  room_refuses p q r =
+      refuses_ensure (leb (length f.variables) lent.values) _ p (
+      refuses_ensure (leb (length f.lines) lent.verdicts) _ q
+      (refuses_test (leb (length f.lines) lent.results) _ r))

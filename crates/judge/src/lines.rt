@@ -1,9 +1,9 @@
 // The verdict on a stored line with its result, and those on all of them. The widths stand in the lines' heads: no table of variables is needed.
 ghost use Rattle.std.specs.Prelude.{◌≡◌, List, ◌++◌, ℕ, ◌≤◌, ◌<◌, length, get_or, drop};
-ghost use Rattle.edition.specs.Edition.{maxLines};
+ghost use Rattle.edition.specs.Edition.{max_lines};
 ghost use Rattle.constraint.specs.File.{Variable, operand_word, target as target_of};
-ghost use Rattle.store.specs.Tables.{lineBodies, tableHeads, tableBodies, operandIn, lineIn, linesIn, HeadsFit, AllHeadsFit};
-ghost use Rattle.judge.specs.Judge.{judge, verdictsOf, resultsOf};
+ghost use Rattle.store.specs.Tables.{line_bodies, table_heads, table_bodies, operand_in, line_in, lines_in, HeadsFit, AllHeadsFit};
+ghost use Rattle.judge.specs.Judge.{judge, verdicts_of, results_of};
 ghost use Rattle.judge.specs.Fitting.{Judgeable};
 
 use super::Judged;
@@ -30,8 +30,8 @@ fn operand_word<'a>(
     k: usize,
     slot: usize,
 ) -> Word
-    requires { (length heads.now ≡ tableHeads) × (length bodies.now ≡ tableBodies) × (k < maxLines) × (slot < lineBodies) }
-    ensures { (xs : List Variable) → HeadsFit xs heads.now bodies.now k → result ≡ operand_word xs row.now (operandIn heads.now bodies.now k slot) }
+    requires { (length heads.now ≡ table_heads) × (length bodies.now ≡ table_bodies) × (k < max_lines) × (slot < line_bodies) }
+    ensures { (xs : List Variable) → HeadsFit xs heads.now bodies.now k → result ≡ operand_word xs row.now (operand_in heads.now bodies.now k slot) }
 {
     let head = head_of(heads, k, slot);
     let body = body_of(bodies, k, slot);
@@ -55,8 +55,8 @@ fn target<'a>(
     bodies: &'a [u64; TABLE_BODIES],
     k: usize,
 ) -> Word
-    requires { (length heads.now ≡ tableHeads) × (length bodies.now ≡ tableBodies) × (k < maxLines) }
-    ensures { (xs : List Variable) → HeadsFit xs heads.now bodies.now k → result ≡ target_of xs row.now (operandIn heads.now bodies.now k 0) }
+    requires { (length heads.now ≡ table_heads) × (length bodies.now ≡ table_bodies) × (k < max_lines) }
+    ensures { (xs : List Variable) → HeadsFit xs heads.now bodies.now k → result ≡ target_of xs row.now (operand_in heads.now bodies.now k 0) }
 {
     if head_of(heads, k, OUTPUT) == ABSENT {
         return Word {
@@ -74,8 +74,8 @@ pub fn judge_line<'a>(
     bodies: &'a [u64; TABLE_BODIES],
     k: usize,
 ) -> Judged
-    requires { (length heads.now ≡ tableHeads) × (length bodies.now ≡ tableBodies) × (k < maxLines) × Judgeable row.now heads.now bodies.now k }
-    ensures { (xs : List Variable) → HeadsFit xs heads.now bodies.now k → result ≡ judge xs row.now (lineIn heads.now bodies.now k) }
+    requires { (length heads.now ≡ table_heads) × (length bodies.now ≡ table_bodies) × (k < max_lines) × Judgeable row.now heads.now bodies.now k }
+    ensures { (xs : List Variable) → HeadsFit xs heads.now bodies.now k → result ≡ judge xs row.now (line_in heads.now bodies.now k) }
 {
     let op = operator_of(heads, k);
     let a = operand_word(row, heads, bodies, k, FIRST);
@@ -112,8 +112,8 @@ pub fn judge_all<'a>(
     verdicts: &mut [u8],
     results: &mut [u64],
 )
-    requires { (m ≤ maxLines) × (length heads.now ≡ tableHeads) × (length bodies.now ≡ tableBodies) × (m ≤ length verdicts.old) × (m ≤ length results.old) × ((k : ℕ) → k < m → Judgeable row.now heads.now bodies.now k) }
-    ensures { (xs : List Variable) → AllHeadsFit xs heads.now bodies.now m → (verdicts.new ≡ verdictsOf xs row.now (linesIn heads.now bodies.now m) ++ drop m verdicts.old) × (results.new ≡ resultsOf xs row.now (linesIn heads.now bodies.now m) ++ drop m results.old) }
+    requires { (m ≤ max_lines) × (length heads.now ≡ table_heads) × (length bodies.now ≡ table_bodies) × (m ≤ length verdicts.old) × (m ≤ length results.old) × ((k : ℕ) → k < m → Judgeable row.now heads.now bodies.now k) }
+    ensures { (xs : List Variable) → AllHeadsFit xs heads.now bodies.now m → (verdicts.new ≡ verdicts_of xs row.now (lines_in heads.now bodies.now m) ++ drop m verdicts.old) × (results.new ≡ results_of xs row.now (lines_in heads.now bodies.now m) ++ drop m results.old) }
 {
     let mut i = 0;
     while i < m {

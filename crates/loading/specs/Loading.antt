@@ -1,12 +1,12 @@
 -- A file in its room.
 use Rattle.std.specs.Prelude.{ℕ, ◌+◌, ◌<◌, ◌≡◌, List, length}
-use Rattle.edition.specs.Edition.{maxFileBytes}
+use Rattle.edition.specs.Edition.{max_file_bytes}
 
 -- room for a file, and for one byte more, so that one that is too long is seen to be
-abbrev pub fileRoom : ℕ
-fileRoom = maxFileBytes + 1
+abbrev pub file_room : ℕ
+file_room = max_file_bytes + 1
 
 -- of a file n bytes were read: if they fill the room, it is over the limit
 pub record Seen (n : ℕ) (room : List ℕ) : Type 0 where
-  pub whole : length room ≡ fileRoom
-  pub over : n ≡ length room → maxFileBytes < n
+  pub whole : length room ≡ file_room
+  pub over : n ≡ length room → max_file_bytes < n

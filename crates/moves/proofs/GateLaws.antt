@@ -10,62 +10,62 @@ use lib.ListN.{length, take}
 use borrow.Author.Tests.{lt-ltb, le-ltb, ltb-true}
 use Rattle.refusal.specs.declared.Refusal.{Refusal}
 use Rattle.refusal.specs.declared.Subject.TheVariants.{Values, Verdicts, Call as CallsNumbers}
-use Rattle.refusal.specs.Numbers.{noSuchVariable, valueDoesNotFit, heldDoesNotFit}
-use Rattle.refusal.specs.Lists.{firstFrom}
+use Rattle.refusal.specs.Numbers.{no_such_variable, value_does_not_fit, held_does_not_fit}
+use Rattle.refusal.specs.Lists.{first_from}
 use Rattle.refusal.specs.Result.{Result, accepted, refused, refusal, ◌>>◌}
-use Rattle.refusal.proofs.ResultLaws.{ensure-accepted, then-accepted, test-accepted, none-accepted}
+use Rattle.refusal.proofs.ResultLaws.{ensure_accepted, then_accepted, test_accepted, none_accepted}
 use Rattle.arithmetic.specs.Rules.{fits}
-use Rattle.arithmetic.proofs.RuleLaws.{fits-test}
+use Rattle.arithmetic.proofs.RuleLaws.{fits_test}
 use Rattle.constraint.specs.declared.Line.{Line}
 use Rattle.constraint.specs.File.{File, width_at}
-use Rattle.store.specs.Tables.{variablesIn}
-use Rattle.store.proofs.LookupLaws.{variables-length}
-use Rattle.judge.specs.Judge.{verdictDisregarded}
-use Rattle.judge.specs.InUse.{Tables, rowInUse, columnInUse, Room, roomOf, EnoughRoom, tablesRoom, firstUnfit, valuesFit, verdictsFit}
-use Rattle.judge.proofs.RoomLaws.{accepted-room}
+use Rattle.store.specs.Tables.{variables_in}
+use Rattle.store.proofs.LookupLaws.{variables_length}
+use Rattle.judge.specs.Judge.{verdict_disregarded}
+use Rattle.judge.specs.InUse.{Tables, row_in_use, column_in_use, Room, room_of, EnoughRoom, tables_room, first_unfit, values_fit, verdicts_fit}
+use Rattle.judge.proofs.RoomLaws.{accepted_room}
 use Rattle.index.specs.Index.{Index}
-use Rattle.index.specs.AnyIndex.{indexFitsFor, indexFits}
-use Rattle.index.specs.Internal.{fileOf}
+use Rattle.index.specs.AnyIndex.{index_fits_for, index_fits}
+use Rattle.index.specs.Internal.{file_of}
 use Rattle.moves.specs.Step.{Change}
-use Rattle.moves.specs.Gate.{Call, changing, changeFits, entitled, admitted}
-use Rattle.moves.specs.Internal.{numbersFit}
+use Rattle.moves.specs.Gate.{Call, changing, change_fits, entitled, admitted}
+use Rattle.moves.specs.Internal.{numbers_fit}
 
 -- a file of n variables and m lines
 pub record Sized (f : File) (n m : ℕ) : Type 0 where
   pub variables : length f.variables ≡ n
   pub lines : length f.lines ≡ m
 
-pub file-sized : (file table : List ℕ) (n : ℕ) (ls : List Line) (m : ℕ) → length ls ≡ m → Sized (fileOf (variablesIn file table n) ls) n m
-file-sized file table n ls m e = record { variables = variables-length file table n; lines = e }
+pub file_sized : (file table : List ℕ) (n : ℕ) (ls : List Line) (m : ℕ) → length ls ≡ m → Sized (file_of (variables_in file table n) ls) n m
+file_sized file table n ls m e = record { variables = variables_length file table n; lines = e }
 
 -- ---- test by test: the first that fails decides
 module _ (f : File) (n m : ℕ) (sized : Sized f n m) (values verdicts : List ℕ) (i v : ℕ) where
   abbrev told : Change
   told = record { variable = i; value = v }
 
-  pub variable-missing : n ≤ i → refused (refusal CallsNumbers noSuchVariable 0) ≡ numbersFit f values verdicts told
-  unfolding changeFits
-  variable-missing h = rw (sized.variables, le-ltb i n h)
+  pub variable_missing : n ≤ i → refused (refusal CallsNumbers no_such_variable 0) ≡ numbers_fit f values verdicts told
+  unfolding change_fits
+  variable_missing h = rw (sized.variables, le-ltb i n h)
 
   -- the variable is there, and has the width k
   module _ (c : i < n) (k : ℕ) (w : width_at f.variables i ≡ k) where
-    pub value-too-large : fits (record { width = k; value = v }) ≡ false → refused (refusal CallsNumbers valueDoesNotFit 0) ≡ numbersFit f values verdicts told
-    unfolding changeFits
-    value-too-large h = rw (sized.variables, lt-ltb i n c, w, sym (fits-test k v) ∙ h)
+    pub value_too_large : fits (record { width = k; value = v }) ≡ false → refused (refusal CallsNumbers value_does_not_fit 0) ≡ numbers_fit f values verdicts told
+    unfolding change_fits
+    value_too_large h = rw (sized.variables, lt-ltb i n c, w, sym (fits_test k v) ∙ h)
 
     module _ (d : fits (record { width = k; value = v }) ≡ true) where
-      pub values-unfit : (j : ℕ) → some j ≡ firstUnfit f.variables (take n values) → refused (refusal Values heldDoesNotFit j) ≡ numbersFit f values verdicts told
-      unfolding changeFits
-      values-unfit j h = rw (sized.variables, lt-ltb i n c, w, sym (fits-test k v) ∙ d, ← h)
+      pub values_unfit : (j : ℕ) → some j ≡ first_unfit f.variables (take n values) → refused (refusal Values held_does_not_fit j) ≡ numbers_fit f values verdicts told
+      unfolding change_fits
+      values_unfit j h = rw (sized.variables, lt-ltb i n c, w, sym (fits_test k v) ∙ d, ← h)
 
-      module _ (e : none ≡ firstUnfit f.variables (take n values)) where
-        pub verdicts-unfit : (j : ℕ) → some j ≡ firstFrom (ltb verdictDisregarded) 0 (take m verdicts) → refused (refusal Verdicts heldDoesNotFit j) ≡ numbersFit f values verdicts told
-        unfolding changeFits
-        verdicts-unfit j h = rw (sized.variables, sized.lines, lt-ltb i n c, w, sym (fits-test k v) ∙ d, ← e, ← h)
+      module _ (e : none ≡ first_unfit f.variables (take n values)) where
+        pub verdicts_unfit : (j : ℕ) → some j ≡ first_from (ltb verdict_disregarded) 0 (take m verdicts) → refused (refusal Verdicts held_does_not_fit j) ≡ numbers_fit f values verdicts told
+        unfolding change_fits
+        verdicts_unfit j h = rw (sized.variables, sized.lines, lt-ltb i n c, w, sym (fits_test k v) ∙ d, ← e, ← h)
 
-        pub numbers-pass : none ≡ firstFrom (ltb verdictDisregarded) 0 (take m verdicts) → accepted tt ≡ numbersFit f values verdicts told
-        unfolding changeFits
-        numbers-pass h = rw (sized.variables, sized.lines, lt-ltb i n c, w, sym (fits-test k v) ∙ d, ← e, ← h)
+        pub numbers_pass : none ≡ first_from (ltb verdict_disregarded) 0 (take m verdicts) → accepted tt ≡ numbers_fit f values verdicts told
+        unfolding change_fits
+        numbers_pass h = rw (sized.variables, sized.lines, lt-ltb i n c, w, sym (fits_test k v) ∙ d, ← e, ← h)
 
 -- ---- all tests: of the room, of the numbers, of the index
 tests_then : (a b c d e : Result (Unit {0})) → ((a >> b) >> (c >> (d >> e))) ≡ (a >> ((b >> (c >> d)) >> e))
@@ -76,24 +76,24 @@ tests_then (refused r) b c d e = refl
 
 module _ (f : File) (t : Tables) (i v : ℕ) (x : Option Index) where
   abbrev held : Result (Unit {0})
-  held = numbersFit f t.values t.verdicts (record { variable = i; value = v })
+  held = numbers_fit f t.values t.verdicts (record { variable = i; value = v })
 
-  pub gate-then : admitted f t (changing i v x) ≡ (tablesRoom f (roomOf t) >> (held >> indexFits f x))
+  pub gate_then : admitted f t (changing i v x) ≡ (tables_room f (room_of t) >> (held >> index_fits f x))
   unfolding admitted entitled
-  gate-then = tests_then (tablesRoom f (roomOf t)) (changeFits f (record { variable = i; value = v })) (valuesFit f t.values) (verdictsFit f t.verdicts) (indexFits f x)
+  gate_then = tests_then (tables_room f (room_of t)) (change_fits f (record { variable = i; value = v })) (values_fit f t.values) (verdicts_fit f t.verdicts) (index_fits f x)
 
-  pub gate-short : (r : Refusal) → refused r ≡ tablesRoom f (roomOf t) → refused r ≡ admitted f t (changing i v x)
-  gate-short r e = rw (gate-then, ← e)
+  pub gate_short : (r : Refusal) → refused r ≡ tables_room f (room_of t) → refused r ≡ admitted f t (changing i v x)
+  gate_short r e = rw (gate_then, ← e)
 
-  pub gate-barred : (r : Refusal) → accepted tt ≡ tablesRoom f (roomOf t) → refused r ≡ held → refused r ≡ admitted f t (changing i v x)
-  gate-barred r a e = rw (gate-then, ← a, ← e)
+  pub gate_barred : (r : Refusal) → accepted tt ≡ tables_room f (room_of t) → refused r ≡ held → refused r ≡ admitted f t (changing i v x)
+  gate_barred r a e = rw (gate_then, ← a, ← e)
 
-  pub gate-fitted : accepted tt ≡ tablesRoom f (roomOf t) → accepted tt ≡ held → (q : Result (Unit {0})) → q ≡ indexFits f x → q ≡ admitted f t (changing i v x)
-  gate-fitted a b q e = rw (gate-then, ← a, ← b) e
+  pub gate_fitted : accepted tt ≡ tables_room f (room_of t) → accepted tt ≡ held → (q : Result (Unit {0})) → q ≡ index_fits f x → q ≡ admitted f t (changing i v x)
+  gate_fitted a b q e = rw (gate_then, ← a, ← b) e
 
 -- of n variables and m lines
-pub index-fitted : (f : File) (n m : ℕ) → Sized f n m → (x : Index) → indexFitsFor n m x ≡ indexFits f (some x)
-index-fitted f n m sized x = rw (sized.variables, sized.lines)
+pub index_fitted : (f : File) (n m : ℕ) → Sized f n m → (x : Index) → index_fits_for n m x ≡ index_fits f (some x)
+index_fitted f n m sized x = rw (sized.variables, sized.lines)
 
 -- ---- what holds where tests pass
 -- those before 24
@@ -102,43 +102,43 @@ pub record Entitled (f : File) (lent : Room) (c : Call) : Type 0 where
   pub variable : c.change.variable < length f.variables
   pub value : c.change.value < 2 ^ width_at f.variables c.change.variable
 
-pub entitled-passed : (f : File) (lent : Room) (c : Call) → entitled f lent c ≡ accepted tt → Entitled f lent c
-unfolding entitled changeFits
-entitled-passed f lent c e =
+pub entitled_passed : (f : File) (lent : Room) (c : Call) → entitled f lent c ≡ accepted tt → Entitled f lent c
+unfolding entitled change_fits
+entitled_passed f lent c e =
     let n = length f.variables in
     let i = c.change.variable in
     let w = 2 ^ width_at f.variables i in
-    let a = then-accepted (tablesRoom f lent) _ tt e in
-    let d = ensure-accepted (ltb i n) _ _ tt a.1 in
+    let a = then_accepted (tables_room f lent) _ tt e in
+    let d = ensure_accepted (ltb i n) _ _ tt a.1 in
     record {
-      has_room = accepted-room f lent a.0;
+      has_room = accepted_room f lent a.0;
       variable = ltb-true i n d.0;
-      value = ltb-true c.change.value w (test-accepted (ltb c.change.value w) _ d.1);
+      value = ltb-true c.change.value w (test_accepted (ltb c.change.value w) _ d.1);
     }
 
 -- all
 pub record Admitted (f : File) (t : Tables) (c : Call) : Type 0 where
-  pub is-entitled : Entitled f (roomOf t) c
-  pub values-fit : firstUnfit f.variables (rowInUse f t.values) ≡ none
-  pub verdicts-fit : firstFrom (ltb verdictDisregarded) 0 (columnInUse f t.verdicts) ≡ none
-  pub index-fits : indexFits f c.index ≡ accepted tt
+  pub is_entitled : Entitled f (room_of t) c
+  pub values_fit_lem : first_unfit f.variables (row_in_use f t.values) ≡ none
+  pub verdicts_fit_lem : first_from (ltb verdict_disregarded) 0 (column_in_use f t.verdicts) ≡ none
+  pub index_fits_lem : index_fits f c.index ≡ accepted tt
 
-pub admitted-passed : (f : File) (t : Tables) (c : Call) → admitted f t c ≡ accepted tt → Admitted f t c
+pub admitted_passed : (f : File) (t : Tables) (c : Call) → admitted f t c ≡ accepted tt → Admitted f t c
 unfolding admitted
-admitted-passed f t c e =
-    let a = then-accepted (entitled f (roomOf t) c) _ tt e in
-    let b = then-accepted (valuesFit f t.values) _ tt a.1 in
-    let d = then-accepted (verdictsFit f t.verdicts) _ tt b.1 in
+admitted_passed f t c e =
+    let a = then_accepted (entitled f (room_of t) c) _ tt e in
+    let b = then_accepted (values_fit f t.values) _ tt a.1 in
+    let d = then_accepted (verdicts_fit f t.verdicts) _ tt b.1 in
     record {
-      is-entitled = entitled-passed f (roomOf t) c a.0;
-      values-fit = none-accepted (firstUnfit f.variables (rowInUse f t.values)) _ b.0;
-      verdicts-fit = none-accepted (firstFrom (ltb verdictDisregarded) 0 (columnInUse f t.verdicts)) _ d.0;
-      index-fits = d.1;
+      is_entitled = entitled_passed f (room_of t) c a.0;
+      values_fit_lem = none_accepted (first_unfit f.variables (row_in_use f t.values)) _ b.0;
+      verdicts_fit_lem = none_accepted (first_from (ltb verdict_disregarded) 0 (column_in_use f t.verdicts)) _ d.0;
+      index_fits_lem = d.1;
     }
 
 -- of n variables and m lines
-pub admitted-within : (f : File) (n m : ℕ) → Sized f n m → (t : Tables) (i v : ℕ) (x : Option Index) → Admitted f t (changing i v x) → (i < n) × (n ≤ length t.values) × (m ≤ length t.verdicts) × (m ≤ length t.results)
-admitted-within f n m sized t i v x p =
-    let e = p.is-entitled in
+pub admitted_within : (f : File) (n m : ℕ) → Sized f n m → (t : Tables) (i v : ℕ) (x : Option Index) → Admitted f t (changing i v x) → (i < n) × (n ≤ length t.values) × (m ≤ length t.verdicts) × (m ≤ length t.results)
+admitted_within f n m sized t i v x p =
+    let e = p.is_entitled in
     let h = e.has_room in
     (omega (arith, e.variable, sized.variables), omega (arith, h.values, sized.variables), omega (arith, h.verdicts, sized.lines), omega (arith, h.results, sized.lines))

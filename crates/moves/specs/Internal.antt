@@ -3,42 +3,42 @@ use Rattle.std.specs.Prelude.{ℕ, ◌+◌, ◌≤◌, ◌<◌, ◌≡◌, Bool,
 use Rattle.std.proofs.Math.Option.{Option, none, some}
 use Rattle.refusal.specs.Result.{Result, ◌>>◌}
 use Rattle.constraint.specs.File.{Variable, File}
-use Rattle.store.specs.Tables.{lineIn}
+use Rattle.store.specs.Tables.{line_in}
 use Rattle.judge.specs.declared.Judged.{Judged}
-use Rattle.judge.specs.Judge.{judge, freshVerdicts, freshResults}
-use Rattle.judge.specs.InUse.{valuesFit, verdictsFit}
+use Rattle.judge.specs.Judge.{judge, fresh_verdicts, fresh_results}
+use Rattle.judge.specs.InUse.{values_fit, verdicts_fit}
 use Rattle.index.specs.Select.{selected}
 use Rattle.index.specs.Index.{Index, index_of}
-use Rattle.index.specs.AnyIndex.{listIn, listFits}
+use Rattle.index.specs.AnyIndex.{list_in, list_fits}
 use Rattle.moves.specs.declared.Renewal.{Renewal}
 use Rattle.moves.specs.Step.{Change, renewed, differing}
-use Rattle.moves.specs.Gate.{changeFits}
+use Rattle.moves.specs.Gate.{change_fits}
 
 -- an index of these tables, if a change goes through one
-abbrev pub indexIf : Bool → List ℕ → List ℕ → Option Index
-indexIf through starts lists = cond through (some (index_of starts lists)) none
+abbrev pub index_if : Bool → List ℕ → List ℕ → Option Index
+index_if through starts lists = cond through (some (index_of starts lists)) none
 
 -- the tests between those of the room and of an index: the call's own numbers and those in the tables fit, 23, 18, 24
-abbrev pub numbersFit : File → List ℕ → List ℕ → Change → Result (Unit {0})
-numbersFit f values verdicts c = changeFits f c >> (valuesFit f values >> verdictsFit f verdicts)
+abbrev pub numbers_fit : File → List ℕ → List ℕ → Change → Result (Unit {0})
+numbers_fit f values verdicts c = change_fits f c >> (values_fit f values >> verdicts_fit f verdicts)
 
 -- the columns of the tables of lines
 pub record Columns : Type 0 where
   pub verdicts : List ℕ
   pub results : List ℕ
 
-abbrev pub columnsOf : List ℕ → List ℕ → Columns
-columnsOf verdicts results = record { verdicts = verdicts; results = results }
+abbrev pub columns_of : List ℕ → List ℕ → Columns
+columns_of verdicts results = record { verdicts = verdicts; results = results }
 
-abbrev pub freshColumns : File → List ℕ → Columns
-freshColumns f row = columnsOf (freshVerdicts f row) (freshResults f row)
+abbrev pub fresh_columns : File → List ℕ → Columns
+fresh_columns f row = columns_of (fresh_verdicts f row) (fresh_results f row)
 
 -- what is judged on line k in the table, and columns with it put in at k
-abbrev pub judgedIn : List Variable → List ℕ → List ℕ → List ℕ → ℕ → Judged
-judgedIn xs row heads bodies k = judge xs row (lineIn heads bodies k)
+abbrev pub judged_in : List Variable → List ℕ → List ℕ → List ℕ → ℕ → Judged
+judged_in xs row heads bodies k = judge xs row (line_in heads bodies k)
 
-abbrev pub setLine : Columns → ℕ → Judged → Columns
-setLine columns k fresh = columnsOf (set columns.verdicts k fresh.verdict) (set columns.results k fresh.result)
+abbrev pub set_line : Columns → ℕ → Judged → Columns
+set_line columns k fresh = columns_of (set columns.verdicts k fresh.verdict) (set columns.results k fresh.result)
 
 -- whether a verdict became different, as a number
 abbrev pub differs : ℕ → ℕ → ℕ
@@ -46,17 +46,17 @@ differs old new = cond (eqb old new) 0 1
 
 -- line k is made anew and counted where a test passes, else all are as they were
 pub record RenewedIf (test : Bool) (fresh : Judged) (k : ℕ) (old new : Columns) (r : Renewal) : Type 0 where
-  pub made : new ≡ cond test (setLine old k fresh) old
+  pub made : new ≡ cond test (set_line old k fresh) old
   pub counted : r.named ≡ cond test 1 0
   pub differed : r.altered ≡ cond test (differs (get_or old.verdicts k 0) fresh.verdict) 0
 
 -- a column: of its first m entries those of the selected lines are fresh, and those behind them are as they were
-abbrev pub renewedFront : List Bool → List ℕ → ℕ → List ℕ → List ℕ
-renewedFront lines fresh m old = renewed lines fresh (take m old) ++ drop m old
+abbrev pub renewed_front : List Bool → List ℕ → ℕ → List ℕ → List ℕ
+renewed_front lines fresh m old = renewed lines fresh (take m old) ++ drop m old
 
 -- of the first m lines the selected ones are made anew and counted
 pub record Renewed (lines : List Bool) (fresh : Columns) (m : ℕ) (old new : Columns) (r : Renewal) : Type 0 where
-  pub made : new ≡ columnsOf (renewedFront lines fresh.verdicts m old.verdicts) (renewedFront lines fresh.results m old.results)
+  pub made : new ≡ columns_of (renewed_front lines fresh.verdicts m old.verdicts) (renewed_front lines fresh.results m old.results)
   pub counted : r.named ≡ selected lines
   pub differed : r.altered ≡ differing (take m old.verdicts) (renewed lines fresh.verdicts (take m old.verdicts))
 
@@ -65,4 +65,4 @@ pub record ListFitting (m : ℕ) (x : Index) (i : ℕ) : Type 0 where
   pub there : i + 1 < length x.starts
   pub rises : get_or x.starts i 0 ≤ get_or x.starts (i + 1) 0
   pub within : get_or x.starts (i + 1) 0 ≤ length x.lists
-  pub fits : listFits m (listIn x i) ≡ true
+  pub fits : list_fits m (list_in x i) ≡ true

@@ -3,12 +3,12 @@ use Rattle.std.specs.Prelude.{ℕ, suc, List, [], ◌∷◌, ◌++◌, take, dro
 use Rattle.std.proofs.Math.Option.{none}
 use Rattle.refusal.specs.Result.{Result, accepted, refused}
 use Rattle.constraint.specs.File.{File}
-use Rattle.judge.specs.InUse.{Tables, tables_of, freshTables, Room}
+use Rattle.judge.specs.InUse.{Tables, tables_of, fresh_tables, Room}
 use Rattle.moves.specs.declared.ChangeReply.{ChangeReply}
 use Rattle.moves.specs.declared.ChangeReply.TheVariants.{Changed, Refused}
 use Rattle.moves.specs.Step.{effect}
 use Rattle.moves.specs.Gate.{Call, entitled}
-use Rattle.moves.specs.Change.{Outcome, changeOutcome}
+use Rattle.moves.specs.Change.{Outcome, change_outcome}
 
 -- THE RUN
 
@@ -30,27 +30,27 @@ abbrev pub ChangeCall : Type 0
 ChangeCall = List ℕ → Tables → Call → Outcome
 
 -- what a turn answers, and the whole tables after it
-abbrev pub turnOutcome : ChangeCall → List ℕ → Tables → Turn → Outcome
-turnOutcome change constraint t u = let o = change constraint (fronts u.lent t) u.call in record { reply = o.reply; tables = put_back u.lent o.tables t }
+abbrev pub turn_outcome : ChangeCall → List ℕ → Tables → Turn → Outcome
+turn_outcome change constraint t u = let o = change constraint (fronts u.lent t) u.call in record { reply = o.reply; tables = put_back u.lent o.tables t }
 
 -- turns in a row, on one file; call n does what `calls n` says, and each is lent the tables "as the check or the change before it left them"
 unfoldable pub outcomes : (ℕ → ChangeCall) → List ℕ → ℕ → Tables → List Turn → List Outcome
 outcomes calls constraint n t [] = []
-outcomes calls constraint n t (u ∷ us) = let o = turnOutcome (calls n) constraint t u in o ∷ outcomes calls constraint (suc n) o.tables us
+outcomes calls constraint n t (u ∷ us) = let o = turn_outcome (calls n) constraint t u in o ∷ outcomes calls constraint (suc n) o.tables us
 
 -- the tables after them
-unfoldable pub tablesAfter : (ℕ → ChangeCall) → List ℕ → ℕ → Tables → List Turn → Tables
-tablesAfter calls constraint n t [] = t
-tablesAfter calls constraint n t (u ∷ us) = tablesAfter calls constraint (suc n) (turnOutcome (calls n) constraint t u).tables us
+unfoldable pub tables_after : (ℕ → ChangeCall) → List ℕ → ℕ → Tables → List Turn → Tables
+tables_after calls constraint n t [] = t
+tables_after calls constraint n t (u ∷ us) = tables_after calls constraint (suc n) (turn_outcome (calls n) constraint t u).tables us
 
 -- something holds of each turn: of the turn, the whole tables before it, and its reply with the whole tables after it
 abbrev pub EachTurn : (Turn → Tables → Outcome → Type 0) → (ℕ → ChangeCall) → List ℕ → ℕ → Tables → List Turn → Type 0
 EachTurn P calls constraint n t [] = Unit {0}
-EachTurn P calls constraint n t (u ∷ us) = let o = turnOutcome (calls n) constraint t u in P u t o × EachTurn P calls constraint (suc n) o.tables us
+EachTurn P calls constraint n t (u ∷ us) = let o = turn_outcome (calls n) constraint t u in P u t o × EachTurn P calls constraint (suc n) o.tables us
 
 -- each call does what the contract of the change says
-abbrev pub theChange : ℕ → ChangeCall
-theChange n = changeOutcome
+abbrev pub the_change : ℕ → ChangeCall
+the_change n = change_outcome
 
 -- THE MODEL: "It holds a row of values in declaration order, nothing else"
 
@@ -64,18 +64,18 @@ abbrev pub modelled : File → List ℕ → Turn → Result (Unit {0}) → Model
 modelled f row u (accepted passed) =
     let c = u.call.change in
     let after = set row c.variable c.value in
-    record { reply = Changed (effect f none c (freshTables f row) (freshTables f after)); row = after }
+    record { reply = Changed (effect f none c (fresh_tables f row) (fresh_tables f after)); row = after }
 modelled f row u (refused r) = record { reply = Refused r; row = row }
 
 -- one turn: "refused 21 .., then 23 .., then 18"; "24 can't arise", nor can 25, where no index or the file's own is used
-abbrev pub modelOutcome : File → List ℕ → Turn → ModelOutcome
-modelOutcome f row u = modelled f row u (entitled f u.lent u.call)
+abbrev pub model_outcome : File → List ℕ → Turn → ModelOutcome
+model_outcome f row u = modelled f row u (entitled f u.lent u.call)
 
 -- the replies to all turns, and the row after them
-unfoldable pub modelReplies : File → List ℕ → List Turn → List ChangeReply
-modelReplies f row [] = []
-modelReplies f row (u ∷ us) = let o = modelOutcome f row u in o.reply ∷ modelReplies f o.row us
+unfoldable pub model_replies : File → List ℕ → List Turn → List ChangeReply
+model_replies f row [] = []
+model_replies f row (u ∷ us) = let o = model_outcome f row u in o.reply ∷ model_replies f o.row us
 
-unfoldable pub modelRow : File → List ℕ → List Turn → List ℕ
-modelRow f row [] = row
-modelRow f row (u ∷ us) = modelRow f (modelOutcome f row u).row us
+unfoldable pub model_row : File → List ℕ → List Turn → List ℕ
+model_row f row [] = row
+model_row f row (u ∷ us) = model_row f (model_outcome f row u).row us

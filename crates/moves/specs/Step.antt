@@ -2,11 +2,11 @@
 use Rattle.std.specs.Prelude.{ℕ, Bool, cond, not, eqb, get_or, set}
 use mathlib.Core.List.{List, [], ◌∷◌, zip_with}
 use Rattle.std.proofs.Math.Option.{Option}
-use Rattle.edition.specs.Word.{wordBits}
-use Rattle.refusal.specs.Lists.{howMany}
-use Rattle.arithmetic.specs.Bits.{differingBits}
+use Rattle.edition.specs.Word.{word_bits}
+use Rattle.refusal.specs.Lists.{how_many}
+use Rattle.arithmetic.specs.Bits.{differing_bits}
 use Rattle.constraint.specs.File.{File}
-use Rattle.judge.specs.Judge.{freshVerdicts, freshResults, overallOf}
+use Rattle.judge.specs.Judge.{fresh_verdicts, fresh_results, overall_of}
 use Rattle.judge.specs.InUse.{Tables, tables_of}
 use Rattle.index.specs.Select.{selected}
 use Rattle.index.specs.Index.{Index}
@@ -32,19 +32,19 @@ unfoldable pub step : File → Option Index → Change → Tables → Tables
 step f x c t =
     let row = set t.values c.variable c.value in
     let lines = concerned f x c.variable in
-    tables_of row (renewed lines (freshVerdicts f row) t.verdicts) (renewed lines (freshResults f row) t.results)
+    tables_of row (renewed lines (fresh_verdicts f row) t.verdicts) (renewed lines (fresh_results f row) t.results)
 
 -- THE ANSWER
 
 -- in how many places two tables differ
 unfoldable pub differing : List ℕ → List ℕ → ℕ
-differing old new = howMany not (zip_with eqb old new)
+differing old new = how_many not (zip_with eqb old new)
 
 -- by the entries in use before and after: "the overall verdict by the table, how many lines name the variable (a line counts once), how many verdict bytes became different, and the number of bits in which the old and the new value differ". Through an index it "counts as named, just the lines listed"
 abbrev pub effect : File → Option Index → Change → Tables → Tables → Effect
 effect f x c old new = record {
-  overall = overallOf new.verdicts;
+  overall = overall_of new.verdicts;
   named = selected (concerned f x c.variable);
   altered = differing old.verdicts new.verdicts;
-  bits = differingBits wordBits (get_or old.values c.variable 0) c.value;
+  bits = differing_bits word_bits (get_or old.values c.variable 0) c.value;
 }

@@ -1,17 +1,17 @@
 // The tests of a change.
 ghost use Rattle.std.specs.Prelude.{◌≡◌, List, ℕ, ◌≤◌, ltb, length};
-ghost use Rattle.edition.specs.Edition.{maxVariables, maxLines};
-ghost use Rattle.refusal.specs.Lists.{firstFrom};
-ghost use Rattle.refusal.specs.Result.{gateResult};
+ghost use Rattle.edition.specs.Edition.{max_variables, max_lines};
+ghost use Rattle.refusal.specs.Lists.{first_from};
+ghost use Rattle.refusal.specs.Result.{gate_result};
 ghost use Rattle.constraint.specs.declared.Line.{Line};
-ghost use Rattle.store.specs.Tables.{place, variablesIn};
-ghost use Rattle.judge.specs.Judge.{verdictDisregarded};
+ghost use Rattle.store.specs.Tables.{place, variables_in};
+ghost use Rattle.judge.specs.Judge.{verdict_disregarded};
 ghost use Rattle.judge.specs.InUse.{tables_of};
 ghost use Rattle.index.specs.Index.{index_of};
-ghost use Rattle.index.specs.AnyIndex.{indexFitsFor};
-ghost use Rattle.index.specs.Internal.{fileOf};
+ghost use Rattle.index.specs.AnyIndex.{index_fits_for};
+ghost use Rattle.index.specs.Internal.{file_of};
 ghost use Rattle.moves.specs.Gate.{changing, admitted};
-ghost use Rattle.moves.specs.Internal.{indexIf, numbersFit};
+ghost use Rattle.moves.specs.Internal.{index_if, numbers_fit};
 
 use arithmetic::Word;
 use arithmetic::rules::fits;
@@ -26,7 +26,7 @@ use store::variables::width_of;
 
 // The first byte that is no verdict.
 fn first_above(verdicts: &[u8]) -> Found
-    ensures { place result ≡ firstFrom (ltb verdictDisregarded) 0 verdicts.now }
+    ensures { place result ≡ first_from (ltb verdict_disregarded) 0 verdicts.now }
 {
     let mut k = 0;
     while k < verdicts.len() {
@@ -48,8 +48,8 @@ fn gate_numbers(
     i: usize,
     v: u64,
 ) -> Gate
-    requires { (n ≤ maxVariables) × (m ≤ maxLines) × (n ≤ length values.now) × (m ≤ length verdicts.now) }
-    ensures { (file : List ℕ) (ls : List Line) → length ls ≡ m → gateResult result ≡ numbersFit (fileOf (variablesIn file variables.now n) ls) values.now verdicts.now (record { variable = i; value = v }) }
+    requires { (n ≤ max_variables) × (m ≤ max_lines) × (n ≤ length values.now) × (m ≤ length verdicts.now) }
+    ensures { (file : List ℕ) (ls : List Line) → length ls ≡ m → gate_result result ≡ numbers_fit (file_of (variables_in file variables.now n) ls) values.now verdicts.now (record { variable = i; value = v }) }
 {
     if n <= i {
         return bar(Refusal::NO_SUCH_VARIABLE, Subject::Call, 0);
@@ -72,7 +72,7 @@ fn gate_numbers(
 
 // The tests of an index.
 fn gate_index(starts: &[u32], lists: &[u32], n: usize, m: usize) -> Gate
-    ensures { gateResult result ≡ indexFitsFor n m (index_of starts.now lists.now) }
+    ensures { gate_result result ≡ index_fits_for n m (index_of starts.now lists.now) }
 {
     match index_fault(starts, lists, n, m) {
         IndexFault::NoFault => Gate::Pass,
@@ -95,8 +95,8 @@ pub(crate) fn gate(
     i: usize,
     v: u64,
 ) -> Gate
-    requires { (n ≤ maxVariables) × (m ≤ maxLines) }
-    ensures { (file : List ℕ) (ls : List Line) → length ls ≡ m → gateResult result ≡ admitted (fileOf (variablesIn file variables.now n) ls) (tables_of values.now verdicts.now results.now) (changing i v (indexIf through starts.now lists.now)) }
+    requires { (n ≤ max_variables) × (m ≤ max_lines) }
+    ensures { (file : List ℕ) (ls : List Line) → length ls ≡ m → gate_result result ≡ admitted (file_of (variables_in file variables.now n) ls) (tables_of values.now verdicts.now results.now) (changing i v (index_if through starts.now lists.now)) }
 {
     match tables_room(n, m, values.len(), verdicts.len(), results.len()) {
         Gate::Bar(r) => Gate::Bar(r),

@@ -1,19 +1,19 @@
 // The single-value change, with and without an index.
 ghost use Rattle.std.specs.Prelude.{◌≡◌, List, ℕ, ◌≤◌, ◌<◌, length};
 ghost use Rattle.std.proofs.Math.Option.{none, some};
-ghost use Rattle.edition.specs.Edition.{maxVariables, maxLines};
-ghost use Rattle.edition.specs.Word.{wordBits};
-ghost use Rattle.arithmetic.specs.Bits.{differingBits};
-ghost use Rattle.store.specs.Tables.{tableHeads, tableBodies, linesIn, variablesIn, AllHeadsFit};
+ghost use Rattle.edition.specs.Edition.{max_variables, max_lines};
+ghost use Rattle.edition.specs.Word.{word_bits};
+ghost use Rattle.arithmetic.specs.Bits.{differing_bits};
+ghost use Rattle.store.specs.Tables.{table_heads, table_bodies, lines_in, variables_in, AllHeadsFit};
 ghost use Rattle.judge.specs.InUse.{tables_of};
 ghost use Rattle.judge.specs.Claims.{RowFits};
 ghost use Rattle.judge.specs.Fitting.{Judgeable};
 ghost use Rattle.index.specs.Index.{index_of};
-ghost use Rattle.index.specs.Internal.{fileOf};
+ghost use Rattle.index.specs.Internal.{file_of};
 ghost use Rattle.moves.specs.declared.ChangeReply.TheVariants.{Changed};
 ghost use Rattle.moves.specs.Gate.{changing};
-ghost use Rattle.moves.specs.Change.{changeFor, changeOutcome};
-ghost use Rattle.moves.specs.Internal.{indexIf};
+ghost use Rattle.moves.specs.Change.{change_for, change_outcome};
+ghost use Rattle.moves.specs.Internal.{index_if};
 
 use super::admission::gate;
 use super::renewing::renew_concerned;
@@ -29,7 +29,7 @@ use store::lines::{TABLE_BODIES, TABLE_HEADS};
 
 // The reply to an accepted change from one value to another.
 fn changed(overall: Overall, renewal: Renewal, old: u64, new: u64) -> ChangeReply
-    ensures { result ≡ Changed (record { overall = overall; named = renewal.named; altered = renewal.altered; bits = differingBits wordBits old new }) }
+    ensures { result ≡ Changed (record { overall = overall; named = renewal.named; altered = renewal.altered; bits = differing_bits word_bits old new }) }
 {
     ChangeReply::Changed(Effect {
         overall,
@@ -55,8 +55,8 @@ fn change_held<'a>(
     i: usize,
     v: u64,
 ) -> ChangeReply
-    requires { (n ≤ maxVariables) × (m ≤ maxLines) × (length heads.now ≡ tableHeads) × (length bodies.now ≡ tableBodies) × ((row : List ℕ) → ((file : List ℕ) → RowFits (variablesIn file variables.now n) row) → (k : ℕ) → k < m → Judgeable row heads.now bodies.now k) }
-    ensures { (file : List ℕ) → AllHeadsFit (variablesIn file variables.now n) heads.now bodies.now m → record { reply = result; tables = tables_of values.new verdicts.new results.new } ≡ changeFor (fileOf (variablesIn file variables.now n) (linesIn heads.now bodies.now m)) (tables_of values.old verdicts.old results.old) (changing i v (indexIf through starts.now lists.now)) }
+    requires { (n ≤ max_variables) × (m ≤ max_lines) × (length heads.now ≡ table_heads) × (length bodies.now ≡ table_bodies) × ((row : List ℕ) → ((file : List ℕ) → RowFits (variables_in file variables.now n) row) → (k : ℕ) → k < m → Judgeable row heads.now bodies.now k) }
+    ensures { (file : List ℕ) → AllHeadsFit (variables_in file variables.now n) heads.now bodies.now m → record { reply = result; tables = tables_of values.new verdicts.new results.new } ≡ change_for (file_of (variables_in file variables.now n) (lines_in heads.now bodies.now m)) (tables_of values.old verdicts.old results.old) (changing i v (index_if through starts.now lists.now)) }
 {
     match gate(
         variables, n, m, values, verdicts, results, through, starts, lists, i, v,
@@ -86,7 +86,7 @@ pub(crate) fn change_read(
     i: usize,
     v: u64,
 ) -> ChangeReply
-    ensures { record { reply = result; tables = tables_of values.new verdicts.new results.new } ≡ changeOutcome constraint.now (tables_of values.old verdicts.old results.old) (changing i v (indexIf through starts.now lists.now)) }
+    ensures { record { reply = result; tables = tables_of values.new verdicts.new results.new } ≡ change_outcome constraint.now (tables_of values.old verdicts.old results.old) (changing i v (index_if through starts.now lists.now)) }
 {
     let mut variables = [0u64; Edition::VARIABLES];
     let mut heads = [0u8; TABLE_HEADS];
@@ -120,7 +120,7 @@ pub fn change(
     i: usize,
     v: u64,
 ) -> ChangeReply
-    ensures { record { reply = result; tables = tables_of values.new verdicts.new results.new } ≡ changeOutcome constraint.now (tables_of values.old verdicts.old results.old) (changing i v none) }
+    ensures { record { reply = result; tables = tables_of values.new verdicts.new results.new } ≡ change_outcome constraint.now (tables_of values.old verdicts.old results.old) (changing i v none) }
 {
     let unused = [0u32; 0];
     change_read(
@@ -139,7 +139,7 @@ pub fn change_through(
     i: usize,
     v: u64,
 ) -> ChangeReply
-    ensures { record { reply = result; tables = tables_of values.new verdicts.new results.new } ≡ changeOutcome constraint.now (tables_of values.old verdicts.old results.old) (changing i v (some (index_of starts.now lists.now))) }
+    ensures { record { reply = result; tables = tables_of values.new verdicts.new results.new } ≡ change_outcome constraint.now (tables_of values.old verdicts.old results.old) (changing i v (some (index_of starts.now lists.now))) }
 {
     change_read(
         constraint, values, verdicts, results, true, starts, lists, i, v,

@@ -1,14 +1,14 @@
 // Verdicts and results made anew: of the lines that name a variable, or of those in a list.
 ghost use Rattle.std.specs.Prelude.{◌≡◌, true, List, ℕ, ◌≤◌, ◌<◌, length, get_or};
-ghost use Rattle.edition.specs.Edition.{maxLines};
+ghost use Rattle.edition.specs.Edition.{max_lines};
 ghost use Rattle.constraint.specs.File.{Variable};
-ghost use Rattle.store.specs.Tables.{tableHeads, tableBodies, lineIn, linesIn, HeadsFit, AllHeadsFit};
+ghost use Rattle.store.specs.Tables.{table_heads, table_bodies, line_in, lines_in, HeadsFit, AllHeadsFit};
 ghost use Rattle.judge.specs.Fitting.{Judgeable};
 ghost use Rattle.index.specs.Select.{naming, names as namesIn};
 ghost use Rattle.index.specs.Index.{index_of};
-ghost use Rattle.index.specs.AnyIndex.{numbered, concerned, listFits};
-ghost use Rattle.index.specs.Internal.{fileOf};
-ghost use Rattle.moves.specs.Internal.{indexIf, columnsOf, freshColumns, judgedIn, setLine, differs, RenewedIf, Renewed, ListFitting};
+ghost use Rattle.index.specs.AnyIndex.{numbered, concerned, list_fits};
+ghost use Rattle.index.specs.Internal.{file_of};
+ghost use Rattle.moves.specs.Internal.{index_if, columns_of, fresh_columns, judged_in, set_line, differs, RenewedIf, Renewed, ListFitting};
 
 use super::Renewal;
 use index::naming::names;
@@ -31,8 +31,8 @@ fn renew_line<'a>(
     results: &mut [u64],
     k: usize,
 ) -> usize
-    requires { (k < length verdicts.old) × (k < length results.old) × (length heads.now ≡ tableHeads) × (length bodies.now ≡ tableBodies) × (k < maxLines) × Judgeable row.now heads.now bodies.now k }
-    ensures { (xs : List Variable) → HeadsFit xs heads.now bodies.now k → let fresh = judgedIn xs row.now heads.now bodies.now k in (result ≡ differs (get_or verdicts.old k 0) fresh.verdict) × (columnsOf verdicts.new results.new ≡ setLine (columnsOf verdicts.old results.old) k fresh) }
+    requires { (k < length verdicts.old) × (k < length results.old) × (length heads.now ≡ table_heads) × (length bodies.now ≡ table_bodies) × (k < max_lines) × Judgeable row.now heads.now bodies.now k }
+    ensures { (xs : List Variable) → HeadsFit xs heads.now bodies.now k → let fresh = judged_in xs row.now heads.now bodies.now k in (result ≡ differs (get_or verdicts.old k 0) fresh.verdict) × (columns_of verdicts.new results.new ≡ set_line (columns_of verdicts.old results.old) k fresh) }
 {
     let old = verdicts[k];
     let judged = judge_line(row, heads, bodies, k);
@@ -52,8 +52,8 @@ fn renew_named<'a>(
     k: usize,
     i: usize,
 ) -> Renewal
-    requires { (k < length verdicts.old) × (k < length results.old) × (length heads.now ≡ tableHeads) × (length bodies.now ≡ tableBodies) × (k < maxLines) × Judgeable row.now heads.now bodies.now k }
-    ensures { (xs : List Variable) → HeadsFit xs heads.now bodies.now k → RenewedIf (namesIn i (lineIn heads.now bodies.now k)) (judgedIn xs row.now heads.now bodies.now k) k (columnsOf verdicts.old results.old) (columnsOf verdicts.new results.new) result }
+    requires { (k < length verdicts.old) × (k < length results.old) × (length heads.now ≡ table_heads) × (length bodies.now ≡ table_bodies) × (k < max_lines) × Judgeable row.now heads.now bodies.now k }
+    ensures { (xs : List Variable) → HeadsFit xs heads.now bodies.now k → RenewedIf (namesIn i (line_in heads.now bodies.now k)) (judged_in xs row.now heads.now bodies.now k) k (columns_of verdicts.old results.old) (columns_of verdicts.new results.new) result }
 {
     if names(i, heads, bodies, k) {
         return Renewal {
@@ -77,8 +77,8 @@ fn renew<'a>(
     results: &mut [u64],
     i: usize,
 ) -> Renewal
-    requires { (m ≤ maxLines) × (length heads.now ≡ tableHeads) × (length bodies.now ≡ tableBodies) × (m ≤ length verdicts.old) × (m ≤ length results.old) × ((k : ℕ) → k < m → Judgeable row.now heads.now bodies.now k) }
-    ensures { (xs : List Variable) → AllHeadsFit xs heads.now bodies.now m → Renewed (naming (fileOf xs (linesIn heads.now bodies.now m)) i) (freshColumns (fileOf xs (linesIn heads.now bodies.now m)) row.now) m (columnsOf verdicts.old results.old) (columnsOf verdicts.new results.new) result }
+    requires { (m ≤ max_lines) × (length heads.now ≡ table_heads) × (length bodies.now ≡ table_bodies) × (m ≤ length verdicts.old) × (m ≤ length results.old) × ((k : ℕ) → k < m → Judgeable row.now heads.now bodies.now k) }
+    ensures { (xs : List Variable) → AllHeadsFit xs heads.now bodies.now m → Renewed (naming (file_of xs (lines_in heads.now bodies.now m)) i) (fresh_columns (file_of xs (lines_in heads.now bodies.now m)) row.now) m (columns_of verdicts.old results.old) (columns_of verdicts.new results.new) result }
 {
     let mut named = 0;
     let mut altered = 0;
@@ -102,8 +102,8 @@ fn renew_listed<'a>(
     results: &mut [u64],
     list: &[u32],
 ) -> Renewal
-    requires { (m ≤ maxLines) × (length heads.now ≡ tableHeads) × (length bodies.now ≡ tableBodies) × (m ≤ length verdicts.old) × (m ≤ length results.old) × (listFits m list.now ≡ true) × ((k : ℕ) → k < m → Judgeable row.now heads.now bodies.now k) }
-    ensures { (xs : List Variable) → AllHeadsFit xs heads.now bodies.now m → Renewed (numbered list.now 1 (linesIn heads.now bodies.now m)) (freshColumns (fileOf xs (linesIn heads.now bodies.now m)) row.now) m (columnsOf verdicts.old results.old) (columnsOf verdicts.new results.new) result }
+    requires { (m ≤ max_lines) × (length heads.now ≡ table_heads) × (length bodies.now ≡ table_bodies) × (m ≤ length verdicts.old) × (m ≤ length results.old) × (list_fits m list.now ≡ true) × ((k : ℕ) → k < m → Judgeable row.now heads.now bodies.now k) }
+    ensures { (xs : List Variable) → AllHeadsFit xs heads.now bodies.now m → Renewed (numbered list.now 1 (lines_in heads.now bodies.now m)) (fresh_columns (file_of xs (lines_in heads.now bodies.now m)) row.now) m (columns_of verdicts.old results.old) (columns_of verdicts.new results.new) result }
 {
     let mut altered = 0;
     let mut k = 0;
@@ -131,8 +131,8 @@ pub(crate) fn renew_concerned<'a>(
     lists: &[u32],
     i: usize,
 ) -> Renewal
-    requires { (m ≤ maxLines) × (length heads.now ≡ tableHeads) × (length bodies.now ≡ tableBodies) × (m ≤ length verdicts.old) × (m ≤ length results.old) × (through ≡ true → ListFitting m (index_of starts.now lists.now) i) × ((k : ℕ) → k < m → Judgeable row.now heads.now bodies.now k) }
-    ensures { (xs : List Variable) → AllHeadsFit xs heads.now bodies.now m → Renewed (concerned (fileOf xs (linesIn heads.now bodies.now m)) (indexIf through starts.now lists.now) i) (freshColumns (fileOf xs (linesIn heads.now bodies.now m)) row.now) m (columnsOf verdicts.old results.old) (columnsOf verdicts.new results.new) result }
+    requires { (m ≤ max_lines) × (length heads.now ≡ table_heads) × (length bodies.now ≡ table_bodies) × (m ≤ length verdicts.old) × (m ≤ length results.old) × (through ≡ true → ListFitting m (index_of starts.now lists.now) i) × ((k : ℕ) → k < m → Judgeable row.now heads.now bodies.now k) }
+    ensures { (xs : List Variable) → AllHeadsFit xs heads.now bodies.now m → Renewed (concerned (file_of xs (lines_in heads.now bodies.now m)) (index_if through starts.now lists.now) i) (fresh_columns (file_of xs (lines_in heads.now bodies.now m)) row.now) m (columns_of verdicts.old results.old) (columns_of verdicts.new results.new) result }
 {
     if through {
         let from = starts[i] as usize;

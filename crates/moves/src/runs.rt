@@ -4,9 +4,9 @@ ghost use Rattle.std.proofs.Math.Option.{none, some};
 ghost use Rattle.judge.specs.InUse.{tables_of};
 ghost use Rattle.index.specs.Index.{index_of};
 ghost use Rattle.moves.specs.Gate.{changing};
-ghost use Rattle.moves.specs.Change.{changeOutcome};
-ghost use Rattle.moves.specs.Run.{turnOutcome};
-ghost use Rattle.moves.specs.Internal.{indexIf};
+ghost use Rattle.moves.specs.Change.{change_outcome};
+ghost use Rattle.moves.specs.Run.{turn_outcome};
+ghost use Rattle.moves.specs.Internal.{index_if};
 
 use super::ChangeReply;
 use super::change::change_read;
@@ -27,7 +27,7 @@ fn change_lent(
     i: usize,
     v: u64,
 ) -> ChangeReply
-    ensures { record { reply = result; tables = tables_of values.exit.now verdicts.new results.new } ≡ turnOutcome changeOutcome constraint.now (tables_of values.entry.now verdicts.old results.old) (record { call = changing i v (indexIf through starts.now lists.now); lent = record { values = p; verdicts = q; results = s } }) }
+    ensures { record { reply = result; tables = tables_of values.exit.now verdicts.new results.new } ≡ turn_outcome change_outcome constraint.now (tables_of values.entry.now verdicts.old results.old) (record { call = changing i v (index_if through starts.now lists.now); lent = record { values = p; verdicts = q; results = s } }) }
 {
     let k = lesser(p, values.len());
     let l = lesser(q, verdicts.len());
@@ -57,7 +57,7 @@ pub fn change_front(
     i: usize,
     v: u64,
 ) -> ChangeReply
-    ensures { record { reply = result; tables = tables_of values.exit.now verdicts.new results.new } ≡ turnOutcome changeOutcome constraint.now (tables_of values.entry.now verdicts.old results.old) (record { call = changing i v none; lent = record { values = p; verdicts = q; results = s } }) }
+    ensures { record { reply = result; tables = tables_of values.exit.now verdicts.new results.new } ≡ turn_outcome change_outcome constraint.now (tables_of values.entry.now verdicts.old results.old) (record { call = changing i v none; lent = record { values = p; verdicts = q; results = s } }) }
 {
     let unused = [0u32; 0];
     change_lent(
@@ -79,7 +79,7 @@ pub fn change_front_through(
     i: usize,
     v: u64,
 ) -> ChangeReply
-    ensures { record { reply = result; tables = tables_of values.exit.now verdicts.new results.new } ≡ turnOutcome changeOutcome constraint.now (tables_of values.entry.now verdicts.old results.old) (record { call = changing i v (some (index_of starts.now lists.now)); lent = record { values = p; verdicts = q; results = s } }) }
+    ensures { record { reply = result; tables = tables_of values.exit.now verdicts.new results.new } ≡ turn_outcome change_outcome constraint.now (tables_of values.entry.now verdicts.old results.old) (record { call = changing i v (some (index_of starts.now lists.now)); lent = record { values = p; verdicts = q; results = s } }) }
 {
     change_lent(
         constraint, values, p, verdicts, q, results, s, true, starts, lists, i, v,

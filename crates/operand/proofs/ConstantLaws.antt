@@ -8,156 +8,156 @@ use native.Mathlib.Omega.{arith}
 use lib.Dec.{eqb, leb, ltb}
 use lib.ListN.{length, take, drop}
 use borrow.Author.Tests.{eqb-true}
-use Rattle.edition.specs.Edition.{isWidth}
+use Rattle.edition.specs.Edition.{is_width}
 use Rattle.refusal.specs.Lists.{every}
-use Rattle.refusal.proofs.BoolLaws.{and_one, and-false, fails}
-use Rattle.refusal.specs.Numbers.{misspelt, notAWidth, numberTooLarge}
+use Rattle.refusal.proofs.BoolLaws.{and_one, and_false, fails}
+use Rattle.refusal.specs.Numbers.{misspelt, not_aWidth, number_too_large}
 use Rattle.refusal.specs.Result.{accepted, refused, ensure, ◌>>◌}
-use Rattle.text.specs.Bytes.{frontOf, isDigit, isLetter}
+use Rattle.text.specs.Bytes.{front_of, is_digit, is_letter}
 use Rattle.text.specs.Lines.{Token}
-use Rattle.text.specs.Spelling.{isNumeral, decimal, maxDigits, numberBound, is_type, typeWidth, up_to, behind}
+use Rattle.text.specs.Spelling.{is_numeral, decimal, max_digits, number_bound, is_type, type_width, up_to, behind}
 use Rattle.text.specs.declared.Class.TheVariants.{Digit, Solid}
 use Rattle.text.specs.declared.Number.{Number}
 use Rattle.text.specs.declared.Number.TheVariants.{Value, TooBig, Misspelt}
 use Rattle.text.specs.declared.TypeRead.{TypeRead}
 use Rattle.text.specs.declared.TypeRead.TheVariants.{Width, NoWidth, NoType}
-use Rattle.text.specs.Scan.{is_of, past, magnitude, numberRead, type_of, typeBehindColon, StopsAt}
-use Rattle.text.proofs.PartLaws.{first-fails, part-front, part-behind, part-bare, part-broken}
-use Rattle.text.proofs.RunLaws.{every-of-run, run-part, scan-place, strict-split, strict-rest, strict_on}
-use Rattle.text.proofs.FirstByteLaws.{digit-solid}
-use Rattle.text.proofs.SeenLaws.{letter-other}
+use Rattle.text.specs.Scan.{is_of, past, magnitude, number_read, type_of, type_behind_colon, StopsAt}
+use Rattle.text.proofs.PartLaws.{first_fails, part_front, part_behind, part_bare, part_broken}
+use Rattle.text.proofs.RunLaws.{every_of_run, run_part, scan_place, strict_split, strict_rest, strict_on}
+use Rattle.text.proofs.FirstByteLaws.{digit_solid}
+use Rattle.text.proofs.SeenLaws.{letter_other}
 use Rattle.arithmetic.proofs.RuleLaws.{width_is}
 use Rattle.constraint.specs.File.{Variable}
-use Rattle.store.specs.Tables.{variableMark, operandOf, headWidth}
-use Rattle.store.proofs.LineTableLaws.{operand-constant, constant-fits}
+use Rattle.store.specs.Tables.{variable_mark, operand_of, head_width}
+use Rattle.store.proofs.LineTableLaws.{operand_constant, constant_fits}
 use Rattle.constraint.specs.declared.Operand.TheVariants.{Const}
 use Rattle.operand.specs.declared.OperandRead.TheVariants.{Good, Bad}
-use Rattle.constraint.specs.Read.{inConstraint, readConstant}
-use Rattle.text.specs.Scan.{tokenAt}
-use Rattle.operand.specs.Internal.{operandResult, constant_of, ReadFits}
+use Rattle.constraint.specs.Read.{in_constraint, read_constant}
+use Rattle.text.specs.Scan.{token_at}
+use Rattle.operand.specs.Internal.{operand_result, constant_of, ReadFits}
 
 -- a width's head is its own
-constant-back : (k v : ℕ) → isWidth k ≡ true → operandOf (headWidth k) v ≡ Const (record { width = k; value = v })
-unfolding headWidth
-constant-back k v e =
+constant_back : (k v : ℕ) → is_width k ≡ true → operand_of (head_width k) v ≡ Const (record { width = k; value = v })
+unfolding head_width
+constant_back k v e =
     let l = (width_is k e).least in
     let h = (width_is k e).most in
-    let q : k % variableMark ≡ k = omega arith in
-    rw q (operand-constant k v l (omega arith))
+    let q : k % variable_mark ≡ k = omega arith in
+    rw q (operand_constant k v l (omega arith))
 
 -- a constant's head has its width
-pub constant-head-fits : (xs : List Variable) (n : Number) (type : TypeRead) → ReadFits xs (constant_of n type)
-unfolding headWidth
-constant-head-fits xs Misspelt type = tt
-constant-head-fits xs TooBig NoType = tt
-constant-head-fits xs TooBig NoWidth = tt
-constant-head-fits xs TooBig (Width k) = tt
-constant-head-fits xs (Value v) NoType = tt
-constant-head-fits xs (Value v) NoWidth = tt
-constant-head-fits xs (Value v) (Width k) = constant-fits xs (k % variableMark) (v % 2 ^ k) (omega arith)
+pub constant_head_fits : (xs : List Variable) (n : Number) (type : TypeRead) → ReadFits xs (constant_of n type)
+unfolding head_width
+constant_head_fits xs Misspelt type = tt
+constant_head_fits xs TooBig NoType = tt
+constant_head_fits xs TooBig NoWidth = tt
+constant_head_fits xs TooBig (Width k) = tt
+constant_head_fits xs (Value v) NoType = tt
+constant_head_fits xs (Value v) NoWidth = tt
+constant_head_fits xs (Value v) (Width k) = constant_fits xs (k % variable_mark) (v % 2 ^ k) (omega arith)
 
 -- the tests, whatever they say
-constant-split : (t : Token) (v k : ℕ) (numeral type width below : Bool) → isWidth k ≡ width → operandResult t (constant_of (cond numeral (cond below (Value v) TooBig) Misspelt) (cond type (cond width (Width k) NoWidth) NoType)) ≡ (do
-  ensure (numeral && type) (inConstraint t misspelt)
-  ensure width (inConstraint t notAWidth)
-  ensure below (inConstraint t numberTooLarge)
+constant_split : (t : Token) (v k : ℕ) (numeral type width below : Bool) → is_width k ≡ width → operand_result t (constant_of (cond numeral (cond below (Value v) TooBig) Misspelt) (cond type (cond width (Width k) NoWidth) NoType)) ≡ (do
+  ensure (numeral && type) (in_constraint t misspelt)
+  ensure width (in_constraint t not_aWidth)
+  ensure below (in_constraint t number_too_large)
   accepted (Const (record { width = k; value = v % 2 ^ k })))
-constant-split t v k true true true true e = ap accepted (constant-back k (v % 2 ^ k) e)
-constant-split t v k true true true false e = refl
-constant-split t v k true true false true e = refl
-constant-split t v k true true false false e = refl
-constant-split t v k true false width true e = refl
-constant-split t v k true false width false e = refl
-constant-split t v k false type width below e = refl
+constant_split t v k true true true true e = ap accepted (constant_back k (v % 2 ^ k) e)
+constant_split t v k true true true false e = refl
+constant_split t v k true true false true e = refl
+constant_split t v k true true false false e = refl
+constant_split t v k true false width true e = refl
+constant_split t v k true false width false e = refl
+constant_split t v k false type width below e = refl
 
-constant-is : (t : Token) → operandResult t (constant_of (numberRead maxDigits (up_to (code ":") t.bytes)) (type_of (behind (code ":") t.bytes))) ≡ readConstant t
-unfolding readConstant numberRead type_of
-constant-is t =
+constant_is : (t : Token) → operand_result t (constant_of (number_read max_digits (up_to (code ":") t.bytes)) (type_of (behind (code ":") t.bytes))) ≡ read_constant t
+unfolding read_constant number_read type_of
+constant_is t =
     let number = up_to (code ":") t.bytes in
     let type = behind (code ":") t.bytes in
-    constant-split t (decimal number) (typeWidth type) (isNumeral maxDigits number) (is_type type) (isWidth (typeWidth type)) (ltb (decimal number) numberBound) refl
+    constant_split t (decimal number) (type_width type) (is_numeral max_digits number) (is_type type) (is_width (type_width type)) (ltb (decimal number) number_bound) refl
 
-constant-bytes : (t : Token) (s : List ℕ) → t.bytes ≡ s → operandResult t (constant_of (numberRead maxDigits (up_to 58 s)) (type_of (behind 58 s))) ≡ readConstant t
-constant-bytes t s q = rw (← q) (constant-is t)
+constant_bytes : (t : Token) (s : List ℕ) → t.bytes ≡ s → operand_result t (constant_of (number_read max_digits (up_to 58 s)) (type_of (behind 58 s))) ≡ read_constant t
+constant_bytes t s q = rw (← q) (constant_is t)
 
 -- ---- digits, and what stands behind them in a token
-colon-no-digit : isDigit 58 ≡ false
-unfolding isDigit
-colon-no-digit = refl
+colon_no_digit : is_digit 58 ≡ false
+unfolding is_digit
+colon_no_digit = refl
 
-every-none : every isDigit [] ≡ true
+every_none : every is_digit [] ≡ true
 unfolding every
-every-none = refl
+every_none = refl
 
-never-good : {A : Type 0} {number head body : ℕ} → Bad number ≡ Good head body → A
-never-good e = let z : ◌≡◌ {A = ℕ} 0 1 = cc e in absurd (omega arith)
+never_good : {A : Type 0} {number head body : ℕ} → Bad number ≡ Good head body → A
+never_good e = let z : ◌≡◌ {A = ℕ} 0 1 = cc e in absurd (omega arith)
 
 -- no type, no constant, whatever the number
-no-type : (n : Number) → constant_of n NoType ≡ Bad misspelt
-no-type Misspelt = refl
-no-type TooBig = refl
-no-type (Value v) = refl
+no_type : (n : Number) → constant_of n NoType ≡ Bad misspelt
+no_type Misspelt = refl
+no_type TooBig = refl
+no_type (Value v) = refl
 
-module _ (ds : List ℕ) (e : every isDigit ds ≡ true) where
-  counted_is : (n : ℕ) → numberRead n ds ≡ cond (leb 1 (length ds) && leb (length ds) n) (magnitude ds) Misspelt
-  unfolding numberRead isNumeral
+module _ (ds : List ℕ) (e : every is_digit ds ≡ true) where
+  counted_is : (n : ℕ) → number_read n ds ≡ cond (leb 1 (length ds) && leb (length ds) n) (magnitude ds) Misspelt
+  unfolding number_read is_numeral
   counted_is n = rw (e, and_one (leb 1 (length ds) && leb (length ds) n))
 
   -- only digits: nothing stands behind a colon
-  bare-type : type_of (behind 58 (ds ++ [])) ≡ NoType
+  bare_type : type_of (behind 58 (ds ++ [])) ≡ NoType
   unfolding type_of is_type
-  bare-type = rw (part-bare isDigit 58 colon-no-digit ds e)
+  bare_type = rw (part_bare is_digit 58 colon_no_digit ds e)
 
   -- another byte than a colon: no number
-  other-number : (n b : ℕ) (s : List ℕ) → isDigit b ≡ false → eqb b 58 ≡ false → numberRead n (up_to 58 (ds ++ b ∷ s)) ≡ Misspelt
-  unfolding numberRead isNumeral
-  other-number n b s d c = rw (part-broken isDigit 58 colon-no-digit ds e b s d c, and-false)
+  other_number_lem : (n b : ℕ) (s : List ℕ) → is_digit b ≡ false → eqb b 58 ≡ false → number_read n (up_to 58 (ds ++ b ∷ s)) ≡ Misspelt
+  unfolding number_read is_numeral
+  other_number_lem n b s d c = rw (part_broken is_digit 58 colon_no_digit ds e b s d c, and_false)
 
   -- a token of digits and what stands behind them, which starts with no digit
-  parts-read : (t : Token) (rest : List ℕ) → t.bytes ≡ ds ++ rest → frontOf isDigit rest ≡ [] → operandResult t (constant_of (cond (leb 1 (length ds) && leb (length ds) maxDigits) (magnitude ds) Misspelt) (typeBehindColon rest)) ≡ readConstant t
-  unfolding typeBehindColon
-  parts-read t [] q r = rw (no-type (cond (leb 1 (length ds) && leb (length ds) maxDigits) (magnitude ds) Misspelt)) (rw (bare-type, no-type (numberRead maxDigits (up_to 58 (ds ++ [])))) at (constant-bytes t (ds ++ []) q))
-  parts-read t (b ∷ s) q r = go (eqb b 58) refl
+  parts_read : (t : Token) (rest : List ℕ) → t.bytes ≡ ds ++ rest → front_of is_digit rest ≡ [] → operand_result t (constant_of (cond (leb 1 (length ds) && leb (length ds) max_digits) (magnitude ds) Misspelt) (type_behind_colon rest)) ≡ read_constant t
+  unfolding type_behind_colon
+  parts_read t [] q r = rw (no_type (cond (leb 1 (length ds) && leb (length ds) max_digits) (magnitude ds) Misspelt)) (rw (bare_type, no_type (number_read max_digits (up_to 58 (ds ++ [])))) at (constant_bytes t (ds ++ []) q))
+  parts_read t (b ∷ s) q r = go (eqb b 58) refl
     where
-      go : (c : Bool) → eqb b 58 ≡ c → operandResult t (constant_of (cond (leb 1 (length ds) && leb (length ds) maxDigits) (magnitude ds) Misspelt) (cond c (type_of s) NoType)) ≡ readConstant t
+      go : (c : Bool) → eqb b 58 ≡ c → operand_result t (constant_of (cond (leb 1 (length ds) && leb (length ds) max_digits) (magnitude ds) Misspelt) (cond c (type_of s) NoType)) ≡ read_constant t
       go true c =
           let z : t.bytes ≡ ds ++ (58 ∷ []) ++ s = q ∙ ap (λ (x : ℕ). ds ++ x ∷ s) (eqb-true b 58 c) ∙ sym (append_assoc ds (58 ∷ []) s) in
-          rw (part-front isDigit 58 colon-no-digit ds e s, part-behind isDigit 58 colon-no-digit ds e s, counted_is maxDigits) at (constant-bytes t (ds ++ (58 ∷ []) ++ s) z)
+          rw (part_front is_digit 58 colon_no_digit ds e s, part_behind is_digit 58 colon_no_digit ds e s, counted_is max_digits) at (constant_bytes t (ds ++ (58 ∷ []) ++ s) z)
       go false c =
-          rw (no-type (cond (leb 1 (length ds) && leb (length ds) maxDigits) (magnitude ds) Misspelt))
-          (rw (other-number maxDigits b s (first-fails isDigit b s r) c) at (constant-bytes t (ds ++ b ∷ s) q))
+          rw (no_type (cond (leb 1 (length ds) && leb (length ds) max_digits) (magnitude ds) Misspelt))
+          (rw (other_number_lem max_digits b s (first_fails is_digit b s r) c) at (constant_bytes t (ds ++ b ∷ s) q))
 
 -- a token that starts with a letter
-pub letter-misspelt : (t : Token) (b : ℕ) (s : List ℕ) → t.bytes ≡ b ∷ s → isLetter b ≡ true → refused (inConstraint t misspelt) ≡ readConstant t
-letter-misspelt t b s q e = let l = letter-other b e in rw (other-number [] every-none maxDigits b s l.0 l.1) at (constant-bytes t (b ∷ s) q)
+pub letter_misspelt : (t : Token) (b : ℕ) (s : List ℕ) → t.bytes ≡ b ∷ s → is_letter b ≡ true → refused (in_constraint t misspelt) ≡ read_constant t
+letter_misspelt t b s q e = let l = letter_other b e in rw (other_number_lem [] every_none max_digits b s l.0 l.1) at (constant_bytes t (b ∷ s) q)
 
 -- the type of a constant tells where its token stops
-pub good-stops : (n : Number) (type : TypeRead) (head body end stop : ℕ) → constant_of n type ≡ Good head body → StopsAt end stop type → stop ≡ end
-good-stops Misspelt type head body end stop e h = never-good e
-good-stops TooBig NoType head body end stop e h = never-good e
-good-stops TooBig NoWidth head body end stop e h = h
-good-stops TooBig (Width k) head body end stop e h = h
-good-stops (Value v) NoType head body end stop e h = never-good e
-good-stops (Value v) NoWidth head body end stop e h = h
-good-stops (Value v) (Width k) head body end stop e h = h
+pub good_stops : (n : Number) (type : TypeRead) (head body end stop : ℕ) → constant_of n type ≡ Good head body → StopsAt end stop type → stop ≡ end
+good_stops Misspelt type head body end stop e h = never_good e
+good_stops TooBig NoType head body end stop e h = never_good e
+good_stops TooBig NoWidth head body end stop e h = h
+good_stops TooBig (Width k) head body end stop e h = h
+good_stops (Value v) NoType head body end stop e h = never_good e
+good_stops (Value v) NoWidth head body end stop e h = h
+good_stops (Value v) (Width k) head body end stop e h = h
 
 -- ---- the constant whose token starts at `start`: its digits stop at `colon`
 module _ (line : List ℕ) (start colon : ℕ) (h : start ≤ length line) (hc : colon ≡ past (is_of Digit) line start) where
-  pub constant-stop : past (is_of Solid) line colon ≡ past (is_of Solid) line start
-  constant-stop = strict_on (is_of Digit) (is_of Solid) digit-solid line start colon h hc
+  pub constant_stop : past (is_of Solid) line colon ≡ past (is_of Solid) line start
+  constant_stop = strict_on (is_of Digit) (is_of Solid) digit_solid line start colon h hc
 
-  digits-pass : every isDigit (frontOf (is_of Digit) (drop start line)) ≡ true
+  digits_pass : every is_digit (front_of (is_of Digit) (drop start line)) ≡ true
   unfolding is_of
-  digits-pass = every-of-run (is_of Digit) (drop start line)
+  digits_pass = every_of_run (is_of Digit) (drop start line)
 
-  rest-fails : frontOf isDigit (frontOf (is_of Solid) (drop colon line)) ≡ []
+  rest_fails : front_of is_digit (front_of (is_of Solid) (drop colon line)) ≡ []
   unfolding is_of
-  rest-fails = strict-rest (is_of Digit) (is_of Solid) digit-solid line start colon h hc
+  rest_fails = strict_rest (is_of Digit) (is_of Solid) digit_solid line start colon h hc
 
-  pub constant-read : {n : Number} {type : TypeRead} → n ≡ cond (leb 1 (colon - start) && leb (colon - start) maxDigits) (magnitude (frontOf (is_of Digit) (drop start line))) Misspelt → type ≡ typeBehindColon (frontOf (is_of Solid) (drop colon line))
-      → let t = tokenAt (take (past (is_of Solid) line start) line) start in operandResult t (constant_of n type) ≡ readConstant t
-  constant-read hn ht =
-      let ds = frontOf (is_of Digit) (drop start line) in
-      let l : length ds ≡ colon - start = omega (arith, scan-place (is_of Digit) line start colon h hc) in
+  pub constant_read : {n : Number} {type : TypeRead} → n ≡ cond (leb 1 (colon - start) && leb (colon - start) max_digits) (magnitude (front_of (is_of Digit) (drop start line))) Misspelt → type ≡ type_behind_colon (front_of (is_of Solid) (drop colon line))
+      → let t = token_at (take (past (is_of Solid) line start) line) start in operand_result t (constant_of n type) ≡ read_constant t
+  constant_read hn ht =
+      let ds = front_of (is_of Digit) (drop start line) in
+      let l : length ds ≡ colon - start = omega (arith, scan_place (is_of Digit) line start colon h hc) in
       rw (hn, ht, ← l)
-      (parts-read ds digits-pass (tokenAt (take (past (is_of Solid) line start) line) start) (frontOf (is_of Solid) (drop colon line)) (sym (run-part (is_of Solid) line start h) ∙ strict-split (is_of Digit) (is_of Solid) digit-solid line start colon h hc) rest-fails)
+      (parts_read ds digits_pass (token_at (take (past (is_of Solid) line start) line) start) (front_of (is_of Solid) (drop colon line)) (sym (run_part (is_of Solid) line start h) ∙ strict_split (is_of Digit) (is_of Solid) digit_solid line start colon h hc) rest_fails)

@@ -5,25 +5,25 @@ use mathlib.Core.List.{List}
 use mathlib.Core.Option.{none, some}
 use lib.ListN.{length, drop, length-drop}
 use borrow.Author.Tests.{le-leb, lt-leb}
-use Rattle.edition.specs.Edition.{maxNameBytes}
-use Rattle.refusal.specs.Numbers.{overLimit, notDeclared}
+use Rattle.edition.specs.Edition.{max_name_bytes}
+use Rattle.refusal.specs.Numbers.{over_limit, not_declared}
 use Rattle.refusal.specs.Result.{accepted, refused}
-use Rattle.text.specs.Scan.{tokenAt}
+use Rattle.text.specs.Scan.{token_at}
 use Rattle.constraint.specs.declared.Operand.TheVariants.{Var}
-use Rattle.constraint.specs.File.{Variable, variableNamed}
-use Rattle.constraint.specs.Read.{inConstraint, readVariable}
+use Rattle.constraint.specs.File.{Variable, variable_named}
+use Rattle.constraint.specs.Read.{in_constraint, read_variable}
 
 -- a variable that is used, from a place to the end of a text
 module _ (xs : List Variable) (text : List ℕ) (start : ℕ) where
-  pub variable-long : maxNameBytes < length text - start → refused (inConstraint (tokenAt text start) overLimit) ≡ readVariable xs (tokenAt text start)
-  unfolding readVariable
-  variable-long h = rw (length-drop, lt-leb (length text - start) maxNameBytes h)
+  pub variable_long : max_name_bytes < length text - start → refused (in_constraint (token_at text start) over_limit) ≡ read_variable xs (token_at text start)
+  unfolding read_variable
+  variable_long h = rw (length-drop, lt-leb (length text - start) max_name_bytes h)
 
-  module _ (h : length text - start ≤ maxNameBytes) where
-    pub variable-found : (i : ℕ) → some i ≡ variableNamed (drop start text) xs → accepted (Var i) ≡ readVariable xs (tokenAt text start)
-    unfolding readVariable
-    variable-found i e = rw (length-drop, le-leb (length text - start) maxNameBytes h, ← e)
+  module _ (h : length text - start ≤ max_name_bytes) where
+    pub variable_found : (i : ℕ) → some i ≡ variable_named (drop start text) xs → accepted (Var i) ≡ read_variable xs (token_at text start)
+    unfolding read_variable
+    variable_found i e = rw (length-drop, le-leb (length text - start) max_name_bytes h, ← e)
 
-    pub variable-unknown : none ≡ variableNamed (drop start text) xs → refused (inConstraint (tokenAt text start) notDeclared) ≡ readVariable xs (tokenAt text start)
-    unfolding readVariable
-    variable-unknown e = rw (length-drop, le-leb (length text - start) maxNameBytes h, ← e)
+    pub variable_unknown : none ≡ variable_named (drop start text) xs → refused (in_constraint (token_at text start) not_declared) ≡ read_variable xs (token_at text start)
+    unfolding read_variable
+    variable_unknown e = rw (length-drop, le-leb (length text - start) max_name_bytes h, ← e)

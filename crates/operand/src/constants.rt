@@ -1,8 +1,8 @@
 // Constants, `digits:iK`.
 ghost use Rattle.std.specs.Prelude.{◌≡◌, List, ◌≤◌, length};
 ghost use Rattle.constraint.specs.File.{Variable};
-ghost use Rattle.constraint.specs.Read.{readConstant};
-ghost use Rattle.operand.specs.Internal.{constant_of, takenFrom, takenResult, TakenWithin, TakenFits};
+ghost use Rattle.constraint.specs.Read.{read_constant};
+ghost use Rattle.operand.specs.Internal.{constant_of, taken_from, taken_result, TakenWithin, TakenFits};
 
 use super::{OperandRead, Taken};
 use arithmetic::rules::reduced;
@@ -34,7 +34,7 @@ fn constant_of(number: Number, kind: TypeRead) -> OperandRead
 // The constant whose token starts at `at`.
 pub fn constant(line: &[u8], at: usize) -> Taken
     requires { at ≤ length line.now }
-    ensures { (takenResult line.now result ≡ takenFrom readConstant line.now at) × TakenWithin line.now result × ((xs : List Variable) → TakenFits xs result) }
+    ensures { (taken_result line.now result ≡ taken_from read_constant line.now at) × TakenWithin line.now result × ((xs : List Variable) → TakenFits xs result) }
 {
     let digits = digits_at(line, at);
     let colon = digits.stop;

@@ -1,13 +1,13 @@
 // Variables as operands.
 ghost use Rattle.std.specs.Prelude.{◌≡◌, true, ◌≤◌, ◌<◌, length, get_or, drop};
-ghost use Rattle.edition.specs.Edition.{maxVariables};
-ghost use Rattle.text.specs.Bytes.{isLetter};
-ghost use Rattle.text.specs.Scan.{tokenAt};
-ghost use Rattle.constraint.specs.Read.{readVariable, readOperand};
-ghost use Rattle.store.specs.Hash.{hashOf};
+ghost use Rattle.edition.specs.Edition.{max_variables};
+ghost use Rattle.text.specs.Bytes.{is_letter};
+ghost use Rattle.text.specs.Scan.{token_at};
+ghost use Rattle.constraint.specs.Read.{read_variable, read_operand};
+ghost use Rattle.store.specs.Hash.{hash_of};
 ghost use Rattle.store.specs.Names.{Searchable};
-ghost use Rattle.store.specs.Tables.{variablesIn};
-ghost use Rattle.operand.specs.Internal.{takenFrom, takenResult, TakenWithin, TakenFits, operandResult, ReadFits};
+ghost use Rattle.store.specs.Tables.{variables_in};
+ghost use Rattle.operand.specs.Internal.{taken_from, taken_result, TakenWithin, TakenFits, operand_result, ReadFits};
 
 use super::{OperandRead, Taken};
 use constraint::refusals::refusal;
@@ -29,8 +29,8 @@ fn variable(
     at: usize,
     hash: u32,
 ) -> OperandRead
-    requires { (at ≤ length text.now) × (n ≤ maxVariables) × Searchable file.now variables.now n × (hash ≡ hashOf (drop at text.now)) }
-    ensures { (operandResult (tokenAt text.now at) result ≡ readVariable (variablesIn file.now variables.now n) (tokenAt text.now at)) × ReadFits (variablesIn file.now variables.now n) result }
+    requires { (at ≤ length text.now) × (n ≤ max_variables) × Searchable file.now variables.now n × (hash ≡ hash_of (drop at text.now)) }
+    ensures { (operand_result (token_at text.now at) result ≡ read_variable (variables_in file.now variables.now n) (token_at text.now at)) × ReadFits (variables_in file.now variables.now n) result }
 {
     if Edition::NAME_BYTES < text.len() - at {
         return OperandRead::Bad(Refusal::OVER_LIMIT);
@@ -49,8 +49,8 @@ pub fn named(
     line: &[u8],
     at: usize,
 ) -> Taken
-    requires { (at < length line.now) × (n ≤ maxVariables) × (isLetter (get_or line.now at 0) ≡ true) × Searchable file.now variables.now n }
-    ensures { (takenResult line.now result ≡ takenFrom (readOperand (variablesIn file.now variables.now n)) line.now at) × TakenWithin line.now result × TakenFits (variablesIn file.now variables.now n) result }
+    requires { (at < length line.now) × (n ≤ max_variables) × (is_letter (get_or line.now at 0) ≡ true) × Searchable file.now variables.now n }
+    ensures { (taken_result line.now result ≡ taken_from (read_operand (variables_in file.now variables.now n)) line.now at) × TakenWithin line.now result × TakenFits (variables_in file.now variables.now n) result }
 {
     let name = name_at(line, at);
     let stop = name.stop;

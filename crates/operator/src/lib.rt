@@ -1,7 +1,7 @@
 // An operator used by itself, with nothing of files. The register simulator uses this crate, with the types of `arithmetic`.
 ghost use Rattle.std.specs.Prelude.{◌≡◌};
 ghost use Rattle.operator.specs.declared.Applied.TheVariants.{Refused};
-ghost use Rattle.operator.specs.Apply.{ofCall, applyOutcome};
+ghost use Rattle.operator.specs.Apply.{of_call, apply_outcome};
 
 use arithmetic::rules::{operands_fit, typed, widths_hold};
 use arithmetic::{Operator, Word};
@@ -18,7 +18,7 @@ pub enum Applied {
 
 // A refusal of the call's own numbers.
 fn refused(number: u8) -> Applied
-    ensures { result ≡ Refused (ofCall number) }
+    ensures { result ≡ Refused (of_call number) }
 {
     Applied::Refused(Refusal {
         number,
@@ -29,7 +29,7 @@ fn refused(number: u8) -> Applied
 
 // An operator used by itself: its result has the width k. Operands that it does not take are not looked at.
 pub fn apply(op: Operator, k: u64, a: Word, b: Word, c: Word) -> Applied
-    ensures { result ≡ applyOutcome op k a b c }
+    ensures { result ≡ apply_outcome op k a b c }
 {
     if !widths_hold(op, k, a, b, c) {
         return refused(Refusal::NOT_A_WIDTH);

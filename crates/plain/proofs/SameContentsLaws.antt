@@ -3,22 +3,22 @@ use Prim.Native.Nat.{ℕ, ◌≤◌}
 use mathlib.Core.Path.{◌≡◌, sym, ◌∙◌}
 use mathlib.Core.List.{List}
 use lib.ListN.{length}
-use Rattle.edition.specs.Edition.{maxFileBytes}
+use Rattle.edition.specs.Edition.{max_file_bytes}
 use Rattle.text.specs.Lines.{TextLine}
 use Rattle.text.specs.Endings.{contents, ContentsDecide}
-use Rattle.text.proofs.TokenLaws.{arguments-moved}
-use Rattle.text.proofs.EndingLaws.{by-contents}
+use Rattle.text.proofs.TokenLaws.{arguments_moved}
+use Rattle.text.proofs.EndingLaws.{by_contents}
 use Rattle.constraint.specs.File.{File}
-use Rattle.constraint.specs.Read.{readFile}
+use Rattle.constraint.specs.Read.{read_file}
 use Rattle.constraint.proofs.AllowedLinesLaws.{allowed_same}
-use Rattle.plain.specs.Says.{tokensBehind, saidBy, said, Says}
-use Rattle.plain.proofs.SaysLaws.{reads-exactly}
+use Rattle.plain.specs.Says.{tokens_behind, said_by, said, Says}
+use Rattle.plain.proofs.SaysLaws.{reads_exactly}
 
-said-moved : (l m : TextLine) → l.bytes ≡ m.bytes → saidBy l ≡ saidBy m
-unfolding saidBy tokensBehind
-said-moved l m e = rw (arguments-moved l m e, e)
+said_moved : (l m : TextLine) → l.bytes ≡ m.bytes → said_by l ≡ said_by m
+unfolding said_by tokens_behind
+said_moved l m e = rw (arguments_moved l m e, e)
 
-module _ (a b : List ℕ) (same : contents a ≡ contents b) (short : length b ≤ maxFileBytes) where
+module _ (a b : List ℕ) (same : contents a ≡ contents b) (short : length b ≤ max_file_bytes) where
   says_same : (f : File) → Says a f → Says b f
   unfolding said
   says_same f h = record {
@@ -26,18 +26,18 @@ module _ (a b : List ℕ) (same : contents a ≡ contents b) (short : length b �
     allowed = allowed_same a b same h.allowed;
     header = h.header;
     others = h.others;
-    in_order = sym (by-contents said-moved a b same) ∙ h.in_order;
-    header-letters = h.header-letters;
+    in_order = sym (by_contents said_moved a b same) ∙ h.in_order;
+    header_letters = h.header_letters;
     version = h.version;
     expectation = h.expectation;
-    some-declared = h.some-declared;
+    some_declared = h.some_declared;
     declared = h.declared;
     variables = h.variables;
     distinct = h.distinct;
-    few-variables = h.few-variables;
+    few_variables = h.few_variables;
     spelt = h.spelt;
-    few-lines = h.few-lines;
+    few_lines = h.few_lines;
   }
 
-pub contents-decide : ContentsDecide readFile
-contents-decide a b f same short e = (reads-exactly b f).1 (says_same a b same short f ((reads-exactly a f).0 e))
+pub contents_decide : ContentsDecide read_file
+contents_decide a b f same short e = (reads_exactly b f).1 (says_same a b same short f ((reads_exactly a f).0 e))

@@ -9,113 +9,113 @@ use lib.Dec.{leb}
 use lib.ListN.{length}
 use borrow.Author.Tests.{leb-true, le-leb}
 use Rattle.edition.specs.declared.Edition.{Edition}
-use Rattle.edition.specs.Edition.{edition10, maxFileBytes}
+use Rattle.edition.specs.Edition.{edition10, max_file_bytes}
 use Rattle.refusal.specs.declared.Subject.TheVariants.{Constraint}
-use Rattle.refusal.specs.Lists.{isThere}
+use Rattle.refusal.specs.Lists.{is_there}
 use Rattle.refusal.specs.declared.Refusal.{Refusal}
 use Rattle.refusal.specs.Result.{Result, accepted, refused}
-use Rattle.refusal.proofs.ResultLaws.{never, bind-accepted, ensure-accepted}
-use Rattle.text.specs.Lines.{textLines}
-use Rattle.text.specs.Reading.{readText}
+use Rattle.refusal.proofs.ResultLaws.{never, bind_accepted, ensure_accepted}
+use Rattle.text.specs.Lines.{text_lines}
+use Rattle.text.specs.Reading.{read_text}
 use Rattle.constraint.specs.declared.Line.{Line}
-use Rattle.constraint.specs.File.{Variable, File, emptyFile, editionOf}
+use Rattle.constraint.specs.File.{Variable, File, empty_file, edition_of}
 use Rattle.constraint.specs.Sound.{Each, SoundFile}
-use Rattle.constraint.specs.Read.{versionOf, expectationOf, readLine, readFile}
+use Rattle.constraint.specs.Read.{version_of, expectation_of, read_line, read_file}
 use Rattle.constraint.proofs.EachLaws.{each_map}
-use Rattle.constraint.proofs.SoundLaws.{any-edition, accepted-is-sound}
-use Rattle.plain.specs.Says.{said, linesWith, tokensWith, SaysVersion, SaysExpectation, no_line, says-0, says-1, SpellsVariable, SpellsLine, Pairwise, Says}
+use Rattle.constraint.proofs.SoundLaws.{any_edition, accepted_is_sound}
+use Rattle.plain.specs.Says.{said, lines_with, tokens_with, SaysVersion, SaysExpectation, no_line, says_0, says_1, SpellsVariable, SpellsLine, Pairwise, Says}
 use Rattle.plain.specs.Claims.{ReadsExactly, RefusesExactly}
 use Rattle.text.proofs.ReadingLaws.{IsAllowed}
-use Rattle.plain.proofs.TokenLaws.{version-is, version-again, expectation-is, zero-again, one_again}
-use Rattle.plain.proofs.OthersLaws.{lines-allowed, Others}
-use Rattle.plain.proofs.HeaderLaws.{Once, kept, set, Header, Whole, whole-are, Fine, whole_again}
+use Rattle.plain.proofs.TokenLaws.{version_is, version_again, expectation_is, zero_again, one_again}
+use Rattle.plain.proofs.OthersLaws.{lines_allowed, Others}
+use Rattle.plain.proofs.HeaderLaws.{Once, kept, set, Header, Whole, whole_are, Fine, whole_again}
 
 -- ---- the `v` line and the `e` line
-one-version : (vs : List (List (List ℕ))) (v : Option Edition) → isThere v ≡ true → Once versionOf none vs v → SaysVersion vs v
-one-version vs v t (kept e k) = never (cc (sym t ∙ ap isThere (sym k)))
-one-version vs v t (set w x n e p k) = record { token = w; edition = x; one = e; spelt = version-is w x p; says-edition = k }
+one_version : (vs : List (List (List ℕ))) (v : Option Edition) → is_there v ≡ true → Once version_of none vs v → SaysVersion vs v
+one_version vs v t (kept e k) = never (cc (sym t ∙ ap is_there (sym k)))
+one_version vs v t (set w x n e p k) = record { token = w; edition = x; one = e; spelt = version_is w x p; says_edition = k }
 
-one-expectation : (es : List (List (List ℕ))) (n : Option ℕ) → Once expectationOf none es n → SaysExpectation es n
-one-expectation es n (kept e k) = no_line e (sym k)
-one-expectation es n (set w x m e p k) = subst₂ SaysExpectation (sym e) (sym k) (expectation-is w x p)
+one_expectation : (es : List (List (List ℕ))) (n : Option ℕ) → Once expectation_of none es n → SaysExpectation es n
+one_expectation es n (kept e k) = no_line e (sym k)
+one_expectation es n (set w x m e p k) = subst₂ SaysExpectation (sym e) (sym k) (expectation_is w x p)
 
-expectation-once : (es : List (List (List ℕ))) (n : Option ℕ) → SaysExpectation es n → Once expectationOf none es n
-expectation-once es n (no_line e k) = kept e (sym k)
-expectation-once es n (says-0 e k) = set _ 0 refl e zero-again k
-expectation-once es n (says-1 e k) = set _ 1 refl e one_again k
+expectation_once : (es : List (List (List ℕ))) (n : Option ℕ) → SaysExpectation es n → Once expectation_of none es n
+expectation_once es n (no_line e k) = kept e (sym k)
+expectation_once es n (says_0 e k) = set _ 0 refl e zero_again k
+expectation_once es n (says_1 e k) = set _ 1 refl e one_again k
 
 module _ (bytes : List ℕ) (f : File) where
   -- what lines that are read say
-  whole_says : length bytes ≤ maxFileBytes → Each IsAllowed (textLines bytes) → isThere f.version ≡ true → SoundFile f → Whole emptyFile f (said bytes) → Says bytes f
+  whole_says : length bytes ≤ max_file_bytes → Each IsAllowed (text_lines bytes) → is_there f.version ≡ true → SoundFile f → Whole empty_file f (said bytes) → Says bytes f
   whole_says short allowed there s w =
       let h = w.head in
       let o = w.tail in
-      let e : editionOf w.middle ≡ editionOf f = ap (λ (v : Option Edition). get_or v edition10) (sym o.version) in
+      let e : edition_of w.middle ≡ edition_of f = ap (λ (v : Option Edition). get_or v edition10) (sym o.version) in
       let xs : h.variables ≡ f.variables = sym h.all ∙ sym o.variables in
       let ls : o.lines ≡ f.lines = sym (o.all ∙ ap (λ (ls : List Line). ls ++ o.lines) h.before) in
-      let spelt : Pairwise (SpellsLine (editionOf f) f.variables) w.others o.lines = subst₂ (λ (c : Edition) (ys : List Variable). Pairwise (SpellsLine c ys) w.others o.lines) e (sym o.variables) o.spelt in
+      let spelt : Pairwise (SpellsLine (edition_of f) f.variables) w.others o.lines = subst₂ (λ (c : Edition) (ys : List Variable). Pairwise (SpellsLine c ys) w.others o.lines) e (sym o.variables) o.spelt in
       record {
         short = short;
         allowed = allowed;
         header = w.header;
         others = w.others;
         in_order = w.in_order;
-        header-letters = h.letters;
-        version = one-version _ f.version there (subst (Once versionOf none (linesWith (code "v") w.header)) (sym o.version) h.version);
-        expectation = one-expectation _ f.expectation (subst (Once expectationOf none (linesWith (code "e") w.header)) (sym o.expectation) h.expectation);
-        some-declared = h.some-declared;
-        declared = subst (Pairwise SpellsVariable (tokensWith (code "d") w.header)) xs h.declared;
+        header_letters = h.letters;
+        version = one_version _ f.version there (subst (Once version_of none (lines_with (code "v") w.header)) (sym o.version) h.version);
+        expectation = one_expectation _ f.expectation (subst (Once expectation_of none (lines_with (code "e") w.header)) (sym o.expectation) h.expectation);
+        some_declared = h.some_declared;
+        declared = subst (Pairwise SpellsVariable (tokens_with (code "d") w.header)) xs h.declared;
         variables = s.variables;
         distinct = s.distinct;
-        few-variables = s.few-variables;
-        spelt = subst (Pairwise (SpellsLine (editionOf f) f.variables) w.others) ls spelt;
-        few-lines = s.few-lines;
+        few_variables = s.few_variables;
+        spelt = subst (Pairwise (SpellsLine (edition_of f) f.variables) w.others) ls spelt;
+        few_lines = s.few_lines;
       }
 
   -- what is accepted says it
-  read-says : (g : File) → g ≡ f → readText Constraint readLine emptyFile bytes ≡ accepted g → isThere g.version ≡ true → SoundFile f → Says bytes f
-  unfolding readText said
-  read-says g z q there s =
-      let t = ensure-accepted (leb (length bytes) maxFileBytes) _ _ f (q ∙ ap accepted z) in
-      whole_says (leb-true (length bytes) maxFileBytes t.0) (lines-allowed (textLines bytes) emptyFile f t.1) (ap (λ (h : File). isThere h.version) (sym z) ∙ there) s (whole-are (textLines bytes) emptyFile f refl t.1)
+  read_says : (g : File) → g ≡ f → read_text Constraint read_line empty_file bytes ≡ accepted g → is_there g.version ≡ true → SoundFile f → Says bytes f
+  unfolding read_text said
+  read_says g z q there s =
+      let t = ensure_accepted (leb (length bytes) max_file_bytes) _ _ f (q ∙ ap accepted z) in
+      whole_says (leb-true (length bytes) max_file_bytes t.0) (lines_allowed (text_lines bytes) empty_file f t.1) (ap (λ (h : File). is_there h.version) (sym z) ∙ there) s (whole_are (text_lines bytes) empty_file f refl t.1)
 
-  accepted-says : readFile bytes ≡ accepted f → Says bytes f
-  unfolding readFile
-  accepted-says q =
-      let p = bind-accepted (readText Constraint readLine emptyFile bytes) _ f q in
-      let d = ensure-accepted (isThere p.0.version) _ _ f p.2 in
-      read-says p.0 (cc d.1) p.1 d.0 (accepted-is-sound bytes f q)
+  accepted_says : read_file bytes ≡ accepted f → Says bytes f
+  unfolding read_file
+  accepted_says q =
+      let p = bind_accepted (read_text Constraint read_line empty_file bytes) _ f q in
+      let d = ensure_accepted (is_there p.0.version) _ _ f p.2 in
+      read_says p.0 (cc d.1) p.1 d.0 (accepted_is_sound bytes f q)
 
   -- what says it is accepted
-  says-accepted : Says bytes f → readFile bytes ≡ accepted f
-  unfolding readFile readText said
-  says-accepted h =
+  says_accepted : Says bytes f → read_file bytes ≡ accepted f
+  unfolding read_file read_text said
+  says_accepted h =
       let g : File = record { version = f.version; expectation = f.expectation; variables = f.variables; lines = [] } in
-      let head : Header emptyFile g h.header = record {
-        letters = h.header-letters;
-        version = set h.version.token h.version.edition refl h.version.one (version-again h.version.token h.version.edition h.version.spelt) h.version.says-edition;
-        expectation = expectation-once _ f.expectation h.expectation;
-        some-declared = h.some-declared;
+      let head : Header empty_file g h.header = record {
+        letters = h.header_letters;
+        version = set h.version.token h.version.edition refl h.version.one (version_again h.version.token h.version.edition h.version.spelt) h.version.says_edition;
+        expectation = expectation_once _ f.expectation h.expectation;
+        some_declared = h.some_declared;
         variables = f.variables;
         declared = h.declared;
         all = refl;
         before = refl;
       } in
       let tail : Others g f h.others = record { version = refl; expectation = refl; variables = refl; lines = f.lines; spelt = h.spelt; all = refl } in
-      let fine : Fine f.variables = record { sound = λ d. each_map (any-edition (editionOf f) d) f.variables h.variables; distinct = h.distinct; few = h.few-variables } in
-      let there : isThere f.version ≡ true = ap isThere h.version.says-edition in
-      rw (le-leb (length bytes) maxFileBytes h.short, whole_again g f h.others fine tail h.few-lines (textLines bytes) emptyFile h.header h.allowed refl h.in_order head, there)
+      let fine : Fine f.variables = record { sound = λ d. each_map (any_edition (edition_of f) d) f.variables h.variables; distinct = h.distinct; few = h.few_variables } in
+      let there : is_there f.version ≡ true = ap is_there h.version.says_edition in
+      rw (le-leb (length bytes) max_file_bytes h.short, whole_again g f h.others fine tail h.few_lines (text_lines bytes) empty_file h.header h.allowed refl h.in_order head, there)
 
   -- what is refused says nothing, and what says nothing is refused
-  refused_says : (r : Refusal) → readFile bytes ≡ refused r → Says bytes f → ⊥
-  refused_says r e h = never (cc (sym (says-accepted h) ∙ e))
+  refused_says : (r : Refusal) → read_file bytes ≡ refused r → Says bytes f → ⊥
+  refused_says r e h = never (cc (sym (says_accepted h) ∙ e))
 
-pub reads-exactly : ReadsExactly
-reads-exactly bytes f = (accepted-says bytes f, says-accepted bytes f)
+pub reads_exactly : ReadsExactly
+reads_exactly bytes f = (accepted_says bytes f, says_accepted bytes f)
 
-pub refuses-exactly : RefusesExactly
-refuses-exactly bytes = (λ p f. refused_says bytes f p.0 p.1, λ n. go n (readFile bytes) refl)
+pub refuses_exactly : RefusesExactly
+refuses_exactly bytes = (λ p f. refused_says bytes f p.0 p.1, λ n. go n (read_file bytes) refl)
   where
-    go : ((f : File) → Says bytes f → ⊥) → (r : Result File) → readFile bytes ≡ r → (x : Refusal) × (readFile bytes ≡ refused x)
-    go n (accepted f) e = absurd (n f (accepted-says bytes f e))
+    go : ((f : File) → Says bytes f → ⊥) → (r : Result File) → read_file bytes ≡ r → (x : Refusal) × (read_file bytes ≡ refused x)
+    go n (accepted f) e = absurd (n f (accepted_says bytes f e))
     go n (refused x) e = (x, e)

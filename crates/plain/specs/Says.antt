@@ -5,22 +5,22 @@ use Prim.Native.String.{String}
 use mathlib.Core.List.{List, [], ◌∷◌, ◌++◌, map, flat_map}
 use Rattle.std.proofs.Math.Option.{Option, none, some}
 use Rattle.edition.specs.declared.Edition.{Edition}
-use Rattle.edition.specs.Edition.{editionNumbered, maxFileBytes, maxVariables, maxLines}
+use Rattle.edition.specs.Edition.{edition_numbered, max_file_bytes, max_variables, max_lines}
 use Rattle.refusal.specs.Lists.{every}
 use Rattle.refusal.specs.SubjectWords.{ascii}
 use Rattle.arithmetic.specs.declared.Operator.{Operator}
 use Rattle.arithmetic.specs.declared.Word.{Word}
 use Rattle.arithmetic.specs.Rules.{arity}
-use Rattle.text.specs.Bytes.{isSpace, isAllowed}
-use Rattle.text.specs.Lines.{TextLine, textLines, arguments, leads}
-use Rattle.text.specs.Spelling.{isNumeral, decimal, maxDigits, numberBound, leadingZero, maxWidthDigits}
+use Rattle.text.specs.Bytes.{is_space, is_allowed}
+use Rattle.text.specs.Lines.{TextLine, text_lines, arguments, leads}
+use Rattle.text.specs.Spelling.{is_numeral, decimal, max_digits, number_bound, leading_zero, max_width_digits}
 use Rattle.spelling.specs.Operators.{spellings}
 use Rattle.constraint.specs.declared.Operand.{Operand}
 use Rattle.constraint.specs.declared.Operand.TheVariants.{Absent, Var, Const}
 use Rattle.constraint.specs.declared.Line.{Line}
-use Rattle.constraint.specs.File.{Variable, File, editionOf, name_at}
-use Rattle.constraint.specs.TypeRules.{wellTyped}
-use Rattle.constraint.specs.Read.{maxVersionDigits}
+use Rattle.constraint.specs.File.{Variable, File, edition_of, name_at}
+use Rattle.constraint.specs.TypeRules.{well_typed}
+use Rattle.constraint.specs.Read.{max_version_digits}
 use Rattle.constraint.specs.Sound.{Each, SoundVariable, Distinct}
 use Rattle.arithmetic.specs.Evaluable.{IsWidth}
 
@@ -31,32 +31,32 @@ pub record SpellsVersion (token : List ℕ) (e : Edition) : Type 0 where
   pub major : List ℕ
   pub minor : List ℕ
   pub spelt : token ≡ major ++ ascii "." ++ minor
-  pub major-digits : isNumeral maxVersionDigits major ≡ true
-  pub minor-digits : isNumeral maxVersionDigits minor ≡ true
-  pub known : editionNumbered (decimal major) (decimal minor) ≡ some e
+  pub major_digits : is_numeral max_version_digits major ≡ true
+  pub minor_digits : is_numeral max_version_digits minor ≡ true
+  pub known : edition_numbered (decimal major) (decimal minor) ≡ some e
 
 -- the K of a type: "one or two digits, no leading zero before another digit", and 1 to 64
 pub record SpellsWidth (digits : List ℕ) (k : ℕ) : Type 0 where
-  pub numeral : isNumeral maxWidthDigits digits ≡ true
-  pub no_zero : leadingZero digits ≡ false
+  pub numeral : is_numeral max_width_digits digits ≡ true
+  pub no_zero : leading_zero digits ≡ false
   pub makes : decimal digits ≡ k
   pub width : IsWidth k
 
 -- a declaration: a name, `:i`, K
 pub record SpellsVariable (token : List ℕ) (x : Variable) : Type 0 where
-  pub width-digits : List ℕ
-  pub spelt : token ≡ x.name ++ ascii ":i" ++ width-digits
-  pub width : SpellsWidth width-digits x.width
+  pub width_digits : List ℕ
+  pub spelt : token ≡ x.name ++ ascii ":i" ++ width_digits
+  pub width : SpellsWidth width_digits x.width
 
 -- a constant: "1 to 20 digits, `:i`, K", "an unsigned number below 2^64 and reduced modulo 2^K"
 pub record SpellsConstant (token : List ℕ) (c : Word) : Type 0 where
-  pub value-digits : List ℕ
-  pub width-digits : List ℕ
-  pub spelt : token ≡ value-digits ++ ascii ":i" ++ width-digits
-  pub numeral : isNumeral maxDigits value-digits ≡ true
-  pub width : SpellsWidth width-digits c.width
-  pub below : decimal value-digits < numberBound
-  pub value : c.value ≡ decimal value-digits % 2 ^ c.width
+  pub value_digits : List ℕ
+  pub width_digits : List ℕ
+  pub spelt : token ≡ value_digits ++ ascii ":i" ++ width_digits
+  pub numeral : is_numeral max_digits value_digits ≡ true
+  pub width : SpellsWidth width_digits c.width
+  pub below : decimal value_digits < number_bound
+  pub value : c.value ≡ decimal value_digits % 2 ^ c.width
 
 -- an output or an operand: the name of a declared variable, or a constant. No token spells an operand that is absent
 abbrev pub SpellsOperand : List Variable → List ℕ → Operand → Type 0
@@ -87,8 +87,8 @@ pub record Said : Type 0 where
   pub tokens : List (List ℕ)
 
 -- the letter that a line starts with, "at its first byte", "then white space or the line's end"; 0 where it is none of the five
-unfoldable pub leadingLetter : List ℕ → ℕ
-leadingLetter s =
+unfoldable pub leading_letter : List ℕ → ℕ
+leading_letter s =
     cond (leads (code "v") s) (code "v")
     (cond (leads (code "e") s) (code "e")
     (cond (leads (code "d") s) (code "d")
@@ -97,33 +97,33 @@ leadingLetter s =
     0))))
 
 -- a blank line, or a line "whose first byte is `#`"
-unfoldable pub isSkipped : List ℕ → Bool
-isSkipped s = every isSpace s || eqb (get_or s 0 0) (code "#")
+unfoldable pub is_skipped : List ℕ → Bool
+is_skipped s = every is_space s || eqb (get_or s 0 0) (code "#")
 
 -- the tokens behind a line's letter
-unfoldable pub tokensBehind : TextLine → List (List ℕ)
-tokensBehind l = map (λ t. t.bytes) (arguments l)
+unfoldable pub tokens_behind : TextLine → List (List ℕ)
+tokens_behind l = map (λ t. t.bytes) (arguments l)
 
 -- what a line says: nothing, if it is skipped
-unfoldable pub saidBy : TextLine → List Said
-saidBy l = cond (isSkipped l.bytes) [] (record { letter = leadingLetter l.bytes; tokens = tokensBehind l } ∷ [])
+unfoldable pub said_by : TextLine → List Said
+said_by l = cond (is_skipped l.bytes) [] (record { letter = leading_letter l.bytes; tokens = tokens_behind l } ∷ [])
 
 -- the lines of a file, without those that are skipped
 unfoldable pub said : List ℕ → List Said
-said bytes = flat_map saidBy (textLines bytes)
+said bytes = flat_map said_by (text_lines bytes)
 
 -- of the lines with a letter: the tokens of each, and all their tokens in order
-unfoldable pub linesWith : ℕ → List Said → List (List (List ℕ))
-linesWith letter = flat_map (λ s. cond (eqb s.letter letter) (s.tokens ∷ []) [])
+unfoldable pub lines_with : ℕ → List Said → List (List (List ℕ))
+lines_with letter = flat_map (λ s. cond (eqb s.letter letter) (s.tokens ∷ []) [])
 
-unfoldable pub tokensWith : ℕ → List Said → List (List ℕ)
-tokensWith letter = flat_map (λ s. cond (eqb s.letter letter) s.tokens [])
+unfoldable pub tokens_with : ℕ → List Said → List (List ℕ)
+tokens_with letter = flat_map (λ s. cond (eqb s.letter letter) s.tokens [])
 
 -- THE HEADER
 
 -- a `v`, `e` or `d` line
-unfoldable pub isHeader : Said → Bool
-isHeader s = eqb s.letter (code "v") || eqb s.letter (code "e") || eqb s.letter (code "d")
+unfoldable pub is_header : Said → Bool
+is_header s = eqb s.letter (code "v") || eqb s.letter (code "e") || eqb s.letter (code "d")
 
 -- "Exactly one `v`", of one token, which is the version
 pub record SaysVersion (vs : List (List (List ℕ))) (version : Option Edition) : Type 0 where
@@ -131,29 +131,29 @@ pub record SaysVersion (vs : List (List (List ℕ))) (version : Option Edition) 
   pub edition : Edition
   pub one : vs ≡ (token ∷ []) ∷ []
   pub spelt : SpellsVersion token edition
-  pub says-edition : version ≡ some edition
+  pub says_edition : version ≡ some edition
 
 -- "at most one `e`", of one token, which "takes `0` or `1`"
 pub data SaysExpectation (es : List (List (List ℕ))) (expectation : Option ℕ) : Type 0 where
   no_line : es ≡ [] → expectation ≡ none → SaysExpectation es expectation
-  says-0 : es ≡ (ascii "0" ∷ []) ∷ [] → expectation ≡ some 0 → SaysExpectation es expectation
-  says-1 : es ≡ (ascii "1" ∷ []) ∷ [] → expectation ≡ some 1 → SaysExpectation es expectation
+  says_0 : es ≡ (ascii "0" ∷ []) ∷ [] → expectation ≡ some 0 → SaysExpectation es expectation
+  says_1 : es ≡ (ascii "1" ∷ []) ∷ [] → expectation ≡ some 1 → SaysExpectation es expectation
 
 -- THE LINES `c` AND `p`
 
 -- an operator by its spelling, its operands, no more tokens; and the line keeps the type rules
 pub record SpellsOperation (e : Edition) (xs : List Variable) (tokens : List (List ℕ)) (l : Line) : Type 0 where
-  pub operator-token : List ℕ
-  pub operand-tokens : List (List ℕ)
-  pub are : tokens ≡ operator-token ∷ operand-tokens
-  pub operator-spelt : SpellsOperator e operator-token l.operator
-  pub count : length operand-tokens ≡ arity l.operator
-  pub operands-spelt : SpellsOperands xs operand-tokens (l.operands.first ∷ l.operands.second ∷ l.operands.third ∷ [])
-  pub type-rules : wellTyped xs l ≡ true
+  pub operator_token : List ℕ
+  pub operand_tokens_lem : List (List ℕ)
+  pub are : tokens ≡ operator_token ∷ operand_tokens_lem
+  pub operator_spelt_lem : SpellsOperator e operator_token l.operator
+  pub count : length operand_tokens_lem ≡ arity l.operator
+  pub operands_spelt : SpellsOperands xs operand_tokens_lem (l.operands.first ∷ l.operands.second ∷ l.operands.third ∷ [])
+  pub type_rules : well_typed xs l ≡ true
 
 -- "`c` takes an output (variable or constant), an operator, its operands; `p` an operator and its operands"
 pub data SpellsLine (e : Edition) (xs : List Variable) (s : Said) (l : Line) : Type 0 where
-  with-output : (output : List ℕ) (others : List (List ℕ)) → s.letter ≡ code "c" → s.tokens ≡ output ∷ others → SpellsOperand xs output l.output → SpellsOperation e xs others l → SpellsLine e xs s l
+  with_output : (output : List ℕ) (others : List (List ℕ)) → s.letter ≡ code "c" → s.tokens ≡ output ∷ others → SpellsOperand xs output l.output → SpellsOperation e xs others l → SpellsLine e xs s l
   predicate : s.letter ≡ code "p" → l.output ≡ Absent → SpellsOperation e xs s.tokens l → SpellsLine e xs s l
 
 -- THE FILE
@@ -168,23 +168,23 @@ Pairwise R (x ∷ xs) (y ∷ ys) = R x y × Pairwise R xs ys
 -- a file's bytes say f
 pub record Says (bytes : List ℕ) (f : File) : Type 0 where
   -- "65,536 bytes", and in every line only bytes that are "allowed anywhere"
-  pub short : length bytes ≤ maxFileBytes
-  pub allowed : Each (λ l. every isAllowed l.bytes ≡ true) (textLines bytes)
+  pub short : length bytes ≤ max_file_bytes
+  pub allowed : Each (λ l. every is_allowed l.bytes ≡ true) (text_lines bytes)
   -- its lines are a header, then the others: "all before the first `c` or `p`"
   pub header : List Said
   pub others : List Said
   pub in_order : said bytes ≡ header ++ others
   -- the header: `v`, `e` and `d` lines, "in any order"
-  pub header-letters : every isHeader header ≡ true
-  pub version : SaysVersion (linesWith (code "v") header) f.version
-  pub expectation : SaysExpectation (linesWith (code "e") header) f.expectation
+  pub header_letters : every is_header header ≡ true
+  pub version : SaysVersion (lines_with (code "v") header) f.version
+  pub expectation : SaysExpectation (lines_with (code "e") header) f.expectation
   -- "`d` takes one or more `name:iK`", and all together spell the variables
-  pub some-declared : Each (λ tokens. 1 ≤ length tokens) (linesWith (code "d") header)
-  pub declared : Pairwise SpellsVariable (tokensWith (code "d") header) f.variables
+  pub some_declared : Each (λ tokens. 1 ≤ length tokens) (lines_with (code "d") header)
+  pub declared : Pairwise SpellsVariable (tokens_with (code "d") header) f.variables
   -- names are names, of 1 to 32 bytes, not reserved, pairwise different; "256 variables"
-  pub variables : Each (SoundVariable (editionOf f)) f.variables
+  pub variables : Each (SoundVariable (edition_of f)) f.variables
   pub distinct : Distinct f.variables
-  pub few-variables : length f.variables ≤ maxVariables
+  pub few_variables : length f.variables ≤ max_variables
   -- the others: `c` and `p` lines, each of which spells its line of f; "1,024 lines of kind `c` or `p`"
-  pub spelt : Pairwise (SpellsLine (editionOf f) f.variables) others f.lines
-  pub few-lines : length f.lines ≤ maxLines
+  pub spelt : Pairwise (SpellsLine (edition_of f) f.variables) others f.lines
+  pub few_lines : length f.lines ≤ max_lines

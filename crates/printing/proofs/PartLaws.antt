@@ -18,15 +18,15 @@ module _ (file : List ℕ) (start len : ℕ) where
     bytes = sym (ap (take len) (drop_of_length-le file {i = start} (omega arith)) ∙ take-nil len);
   }
 
-  pub part-rest : start ≤ length file → length file - start < len → Part file (take len (drop start file)) (record { start = start; stop = length file })
-  part-rest h k = record {
+  pub part_rest : start ≤ length file → length file - start < len → Part file (take len (drop start file)) (record { start = start; stop = length file })
+  part_rest h k = record {
     forward = h;
     within = omega arith;
     bytes = ap (drop start) (take-length file) ∙ sym (take_all len (drop start file) (omega (arith, length-drop start file)));
   }
 
-  pub part-whole : start ≤ length file → len ≤ length file - start → Part file (take len (drop start file)) (record { start = start; stop = start + len })
-  part-whole h k = record {
+  pub part_whole : start ≤ length file → len ≤ length file - start → Part file (take len (drop start file)) (record { start = start; stop = start + len })
+  part_whole h k = record {
     forward = omega arith;
     within = omega arith;
     bytes = drop-take start len file h;

@@ -1,9 +1,9 @@
 -- The text of a refusal.
 use Rattle.std.specs.Prelude.{ℕ, List, ◌++◌}
 use Rattle.refusal.specs.declared.Refusal.{Refusal}
-use Rattle.refusal.specs.SubjectWords.{ascii, subjectWord}
+use Rattle.refusal.specs.SubjectWords.{ascii, subject_word}
 use Rattle.printing.specs.Digits.{counted}
 
 -- as in `refused 15 constraint 32`: its number, what it speaks of, and the position there
-unfoldable pub refusalText : Refusal → List ℕ
-refusalText r = counted (ascii "refused ") r.number ++ ascii " " ++ subjectWord r.subject ++ counted (ascii " ") r.position
+unfoldable pub refusal_text : Refusal → List ℕ
+refusal_text r = counted (ascii "refused ") r.number ++ ascii " " ++ subject_word r.subject ++ counted (ascii " ") r.position

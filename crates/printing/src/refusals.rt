@@ -1,15 +1,15 @@
 // The text of a refusal.
 ghost use Rattle.std.specs.Prelude.{◌+◌, ◌≤◌, length};
-ghost use Rattle.refusal.specs.SubjectWords.{subjectWord};
+ghost use Rattle.refusal.specs.SubjectWords.{subject_word};
 ghost use Rattle.printing.specs.Room.{Put};
-ghost use Rattle.printing.specs.RefusalText.{refusalText};
+ghost use Rattle.printing.specs.RefusalText.{refusal_text};
 
 use super::{put_byte, put_bytes, put_count};
 use refusal::{Refusal, Subject};
 
 fn put_subject(subject: Subject, room: &mut [u8], at: usize) -> usize
-    requires { at + length (subjectWord subject) ≤ length room.old }
-    ensures { Put (subjectWord subject) room.old at result room.new }
+    requires { at + length (subject_word subject) ≤ length room.old }
+    ensures { Put (subject_word subject) room.old at result room.new }
 {
     let label = subject.word();
     let bytes = label.bytes;
@@ -19,8 +19,8 @@ fn put_subject(subject: Subject, room: &mut [u8], at: usize) -> usize
 
 // As in `refused 15 constraint 32`, with no line end.
 pub fn put_refusal(refusal: Refusal, room: &mut [u8], at: usize) -> usize
-    requires { at + length (refusalText refusal) ≤ length room.old }
-    ensures { Put (refusalText refusal) room.old at result room.new }
+    requires { at + length (refusal_text refusal) ≤ length room.old }
+    ensures { Put (refusal_text refusal) room.old at result room.new }
 {
     let subject = refusal.subject;
     let numbered = put_count(b"refused ", refusal.number as u64, room, at);

@@ -1,6 +1,6 @@
 // Reading a constraint file into tables.
 ghost use Rattle.std.specs.Prelude.{◌≡◌};
-ghost use Rattle.reader.specs.Inspect.{inspectOutcome};
+ghost use Rattle.reader.specs.Inspect.{inspect_outcome};
 
 use edition::Edition;
 use reading::read;
@@ -26,7 +26,7 @@ pub enum Inspected {
 
 // Reads and types any bytes: the refusal, or how many variables and lines the file has.
 pub fn inspect(file: &[u8]) -> Inspected
-    ensures { result ≡ inspectOutcome file.now }
+    ensures { result ≡ inspect_outcome file.now }
 {
     let mut variables = [0u64; Edition::VARIABLES];
     let mut heads = [0u8; TABLE_HEADS];

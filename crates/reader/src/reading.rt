@@ -1,17 +1,17 @@
 // Reading a file into tables, line by line.
 ghost use Rattle.std.specs.Prelude.{◌≡◌, true, ℕ, ◌<◌, ◌≤◌, length, take, drop};
-ghost use Rattle.edition.specs.Edition.{maxFileBytes};
+ghost use Rattle.edition.specs.Edition.{max_file_bytes};
 ghost use Rattle.refusal.specs.Lists.{every};
 ghost use Rattle.refusal.specs.declared.Subject.TheVariants.{Constraint as TheConstraint};
-ghost use Rattle.text.specs.Lines.{textLines};
-ghost use Rattle.text.specs.Reading.{readAnyLine, readLines};
-ghost use Rattle.text.specs.Bytes.{isAllowed};
+ghost use Rattle.text.specs.Lines.{text_lines};
+ghost use Rattle.text.specs.Reading.{read_any_line, read_lines};
+ghost use Rattle.text.specs.Bytes.{is_allowed};
 ghost use Rattle.text.specs.Scan.{line_at};
-ghost use Rattle.constraint.specs.File.{emptyFile};
-ghost use Rattle.constraint.specs.Read.{kind_of, readStatement, addLine, readLine, readFile};
+ghost use Rattle.constraint.specs.File.{empty_file};
+ghost use Rattle.constraint.specs.Read.{kind_of, read_statement, add_line, read_line, read_file};
 ghost use Rattle.store.specs.Names.{Searchable};
-ghost use Rattle.store.specs.Tables.{tableHeads, tableBodies, store_of, StoreSized};
-ghost use Rattle.store.specs.Progress.{nothingRead, storedFile, HeadsInUseFit, InTables, stepResult, advanced, addedResult, HasRoom, StepInTables, StepHeadsFit, StepSearchable};
+ghost use Rattle.store.specs.Tables.{table_heads, table_bodies, store_of, StoreSized};
+ghost use Rattle.store.specs.Progress.{nothing_read, stored_file, HeadsInUseFit, InTables, step_result, advanced, added_result, HasRoom, StepInTables, StepHeadsFit, StepSearchable};
 
 use constraint::refusals::refusal;
 use constraint::{Form, Kind};
@@ -64,8 +64,8 @@ fn read_statement(
     bodies: &mut [u64; TABLE_BODIES],
     p: Progress,
 ) -> Added
-    requires { (at < stop) × (stop ≤ length file.now) × InTables p × (length heads.old ≡ tableHeads) × (length bodies.old ≡ tableBodies) × Searchable file.now variables.now p.variables }
-    ensures { ((next : ℕ) → addedResult file.now (store_of variables.now heads.new bodies.new) p result ≡ addLine (storedFile file.now (store_of variables.now heads.old bodies.old) p) (readStatement form (storedFile file.now (store_of variables.now heads.old bodies.old) p) (line_at (take stop file.now) at next))) × (length heads.new ≡ tableHeads) × (length bodies.new ≡ tableBodies) × HasRoom p result × (HeadsInUseFit file.now (store_of variables.now heads.old bodies.old) p → StepHeadsFit file.now (store_of variables.now heads.new bodies.new) (advanced p result)) × StepSearchable file.now variables.now (advanced p result) }
+    requires { (at < stop) × (stop ≤ length file.now) × InTables p × (length heads.old ≡ table_heads) × (length bodies.old ≡ table_bodies) × Searchable file.now variables.now p.variables }
+    ensures { ((next : ℕ) → added_result file.now (store_of variables.now heads.new bodies.new) p result ≡ add_line (stored_file file.now (store_of variables.now heads.old bodies.old) p) (read_statement form (stored_file file.now (store_of variables.now heads.old bodies.old) p) (line_at (take stop file.now) at next))) × (length heads.new ≡ table_heads) × (length bodies.new ≡ table_bodies) × HasRoom p result × (HeadsInUseFit file.now (store_of variables.now heads.old bodies.old) p → StepHeadsFit file.now (store_of variables.now heads.new bodies.new) (advanced p result)) × StepSearchable file.now variables.now (advanced p result) }
 {
     let n = p.variables;
     let m = p.lines;
@@ -86,8 +86,8 @@ fn read_line(
     bodies: &mut [u64; TABLE_BODIES],
     p: Progress,
 ) -> Added
-    requires { (at < stop) × (stop ≤ length file.now) × (length file.now ≤ maxFileBytes) × InTables p × StoreSized (store_of variables.old heads.old bodies.old) × Searchable file.now variables.old p.variables }
-    ensures { ((next : ℕ) → addedResult file.now (store_of variables.new heads.new bodies.new) p result ≡ readLine (storedFile file.now (store_of variables.old heads.old bodies.old) p) (line_at (take stop file.now) at next)) × StoreSized (store_of variables.new heads.new bodies.new) × StepSearchable file.now variables.new (advanced p result) × HasRoom p result × (HeadsInUseFit file.now (store_of variables.old heads.old bodies.old) p → StepHeadsFit file.now (store_of variables.new heads.new bodies.new) (advanced p result)) }
+    requires { (at < stop) × (stop ≤ length file.now) × (length file.now ≤ max_file_bytes) × InTables p × StoreSized (store_of variables.old heads.old bodies.old) × Searchable file.now variables.old p.variables }
+    ensures { ((next : ℕ) → added_result file.now (store_of variables.new heads.new bodies.new) p result ≡ read_line (stored_file file.now (store_of variables.old heads.old bodies.old) p) (line_at (take stop file.now) at next)) × StoreSized (store_of variables.new heads.new bodies.new) × StepSearchable file.now variables.new (advanced p result) × HasRoom p result × (HeadsInUseFit file.now (store_of variables.old heads.old bodies.old) p → StepHeadsFit file.now (store_of variables.new heads.new bodies.new) (advanced p result)) }
 {
     match kind_of(&file[..stop], at) {
         Kind::Skipped => Added::NoPart,
@@ -111,8 +111,8 @@ fn read_any_line(
     bodies: &mut [u64; TABLE_BODIES],
     p: Progress,
 ) -> Added
-    requires { (at ≤ stop) × (stop ≤ length file.now) × (length file.now ≤ maxFileBytes) × InTables p × StoreSized (store_of variables.old heads.old bodies.old) × Searchable file.now variables.old p.variables × (every isAllowed (drop at (take stop file.now)) ≡ true) }
-    ensures { ((next : ℕ) → addedResult file.now (store_of variables.new heads.new bodies.new) p result ≡ readAnyLine TheConstraint readLine (storedFile file.now (store_of variables.old heads.old bodies.old) p) (line_at (take stop file.now) at next)) × StoreSized (store_of variables.new heads.new bodies.new) × StepSearchable file.now variables.new (advanced p result) × HasRoom p result × (HeadsInUseFit file.now (store_of variables.old heads.old bodies.old) p → StepHeadsFit file.now (store_of variables.new heads.new bodies.new) (advanced p result)) }
+    requires { (at ≤ stop) × (stop ≤ length file.now) × (length file.now ≤ max_file_bytes) × InTables p × StoreSized (store_of variables.old heads.old bodies.old) × Searchable file.now variables.old p.variables × (every is_allowed (drop at (take stop file.now)) ≡ true) }
+    ensures { ((next : ℕ) → added_result file.now (store_of variables.new heads.new bodies.new) p result ≡ read_any_line TheConstraint read_line (stored_file file.now (store_of variables.old heads.old bodies.old) p) (line_at (take stop file.now) at next)) × StoreSized (store_of variables.new heads.new bodies.new) × StepSearchable file.now variables.new (advanced p result) × HasRoom p result × (HeadsInUseFit file.now (store_of variables.old heads.old bodies.old) p → StepHeadsFit file.now (store_of variables.new heads.new bodies.new) (advanced p result)) }
 {
     if all(&file[..stop], at, Class::Space) {
         return Added::NoPart;
@@ -122,7 +122,7 @@ fn read_any_line(
 
 // Nothing read yet.
 fn nothing() -> Progress
-    ensures { result ≡ nothingRead }
+    ensures { result ≡ nothing_read }
 {
     Progress {
         version: Version::NoVersion,
@@ -178,8 +178,8 @@ fn read_lines(
     heads: &mut [u8; TABLE_HEADS],
     bodies: &mut [u64; TABLE_BODIES],
 ) -> Step
-    requires { (length file.now ≤ maxFileBytes) × StoreSized (store_of variables.old heads.old bodies.old) × Searchable file.now variables.old 0 }
-    ensures { (stepResult file.now (store_of variables.new heads.new bodies.new) result ≡ readLines TheConstraint readLine emptyFile (textLines file.now)) × StoreSized (store_of variables.new heads.new bodies.new) × StepSearchable file.now variables.new result × StepInTables result × StepHeadsFit file.now (store_of variables.new heads.new bodies.new) result }
+    requires { (length file.now ≤ max_file_bytes) × StoreSized (store_of variables.old heads.old bodies.old) × Searchable file.now variables.old 0 }
+    ensures { (step_result file.now (store_of variables.new heads.new bodies.new) result ≡ read_lines TheConstraint read_line empty_file (text_lines file.now)) × StoreSized (store_of variables.new heads.new bodies.new) × StepSearchable file.now variables.new result × StepInTables result × StepHeadsFit file.now (store_of variables.new heads.new bodies.new) result }
 {
     let mut p = nothing();
     let mut i = 0;
@@ -213,7 +213,7 @@ pub fn read(
     bodies: &mut [u64; TABLE_BODIES],
 ) -> Step
     requires { StoreSized (store_of variables.old heads.old bodies.old) × Searchable file.now variables.old 0 }
-    ensures { (stepResult file.now (store_of variables.new heads.new bodies.new) result ≡ readFile file.now) × StoreSized (store_of variables.new heads.new bodies.new) × StepInTables result × StepHeadsFit file.now (store_of variables.new heads.new bodies.new) result × StepSearchable file.now variables.new result }
+    ensures { (step_result file.now (store_of variables.new heads.new bodies.new) result ≡ read_file file.now) × StoreSized (store_of variables.new heads.new bodies.new) × StepInTables result × StepHeadsFit file.now (store_of variables.new heads.new bodies.new) result × StepSearchable file.now variables.new result }
 {
     if Edition::FILE_BYTES < file.len() {
         return Step::Stop(refusal(Refusal::FILE_TOO_LONG, Edition::FILE_BYTES));

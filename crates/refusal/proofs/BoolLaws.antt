@@ -5,35 +5,35 @@ use borrow.Author.Tests.{not-true, not-false}
 use Rattle.refusal.proofs.ResultLaws.{never}
 
 -- both of two tests pass
-pub and-true : (x y : Bool) → (x && y) ≡ true → (x ≡ true) × (y ≡ true)
-and-true true y e = (refl, e)
-and-true false y e = never (cc e)
+pub and_true : (x y : Bool) → (x && y) ≡ true → (x ≡ true) × (y ≡ true)
+and_true true y e = (refl, e)
+and_true false y e = never (cc e)
 
-pub and-false : (x : Bool) → (x && false) ≡ false
-and-false true = refl
-and-false false = refl
+pub and_false : (x : Bool) → (x && false) ≡ false
+and_false true = refl
+and_false false = refl
 
 -- one, two and three tests, as a list of tests joins them
 pub and_one : (x : Bool) → (x && true) ≡ x
 and_one true = refl
 and_one false = refl
 
-pub and-two : (x y : Bool) → (x && (y && true)) ≡ (x && y)
-and-two true y = and_one y
-and-two false y = refl
+pub and_two : (x y : Bool) → (x && (y && true)) ≡ (x && y)
+and_two true y = and_one y
+and_two false y = refl
 
-pub and-three : (x y z : Bool) → (x && (y && (z && true))) ≡ ((x && y) && z)
-and-three true y z = and-two y z
-and-three false y z = refl
+pub and_three : (x y z : Bool) → (x && (y && (z && true))) ≡ ((x && y) && z)
+and_three true y z = and_two y z
+and_three false y z = refl
 
 -- a test or one that passes, and one that does not
-pub or-true : (t : Bool) → (t || true) ≡ true
-or-true true = refl
-or-true false = refl
+pub or_true : (t : Bool) → (t || true) ≡ true
+or_true true = refl
+or_true false = refl
 
-pub or-false : (t : Bool) → (t || false) ≡ t
-or-false true = refl
-or-false false = refl
+pub or_false : (t : Bool) → (t || false) ≡ t
+or_false true = refl
+or_false false = refl
 
 -- a test that does not pass
 pub fails : (t : Bool) → (t ≡ true → ⊥) → t ≡ false

@@ -2,8 +2,8 @@
 use mathlib.Core.Path.{refl}
 use Rattle.refusal.specs.declared.Refusal.{Refusal}
 use Rattle.refusal.specs.Result.{Result, accepted, refused, ◌>>=◌}
-use Rattle.refusal.proofs.ResultLaws.{Yields, yields-accepted, yields-refused}
-use Rattle.refusal.proofs.RefusesLaws.{Refuses, refuses-accepted, refuses-refused}
+use Rattle.refusal.proofs.ResultLaws.{Yields, yields_accepted, yields_refused}
+use Rattle.refusal.proofs.RefusesLaws.{Refuses, refuses_accepted, refuses_refused}
 
 -- P holds of the refusal of r, where r is refused, and Q of what r accepts
 pub record Ends {A : Type 0} (P : Refusal → Type 0) (Q : A → Type 0) (r : Result A) : Type 0 where
@@ -12,22 +12,22 @@ pub record Ends {A : Type 0} (P : Refusal → Type 0) (Q : A → Type 0) (r : Re
 
 module _ {P : Refusal → Type 0} {B : Type 0} {Q : B → Type 0} where
   -- an accepted result, and a refused one
-  pub ends-accepted : {b : B} → Q b → Ends P Q (accepted b)
-  ends-accepted h = record { refuses = refuses-accepted; yields = yields-accepted h }
+  pub ends_accepted : {b : B} → Q b → Ends P Q (accepted b)
+  ends_accepted h = record { refuses = refuses_accepted; yields = yields_accepted h }
 
-  pub ends-refused : {r : Refusal} → P r → Ends P Q (refused r)
-  ends-refused h = record { refuses = refuses-refused h; yields = yields-refused }
+  pub ends_refused : {r : Refusal} → P r → Ends P Q (refused r)
+  ends_refused h = record { refuses = refuses_refused h; yields = yields_refused }
 
   -- what holds of whatever is accepted
-  pub ends-always : {r : Result B} → Refuses P r → ((b : B) → Q b) → Ends P Q r
-  ends-always h q = record { refuses = h; yields = record { holds = λ b e. q b } }
+  pub ends_always : {r : Result B} → Refuses P r → ((b : B) → Q b) → Ends P Q r
+  ends_always h q = record { refuses = h; yields = record { holds = λ b e. q b } }
 
   -- a step, then the next
-  pub ends-bind : {A : Type 0} {R : A → Type 0} {m : Result A} {next : A → Result B} → Ends P R m → ((a : A) → R a → Ends P Q (next a)) → Ends P Q (m >>= next)
-  ends-bind {m = accepted a} h n = n a (h.yields.holds a refl)
-  ends-bind {m = refused r} h n = ends-refused (h.refuses.holds r refl)
+  pub ends_bind : {A : Type 0} {R : A → Type 0} {m : Result A} {next : A → Result B} → Ends P R m → ((a : A) → R a → Ends P Q (next a)) → Ends P Q (m >>= next)
+  ends_bind {m = accepted a} h n = n a (h.yields.holds a refl)
+  ends_bind {m = refused r} h n = ends_refused (h.refuses.holds r refl)
 
 -- a step, then the next, of which the refusal alone is asked
-pub refuses-after : {P : Refusal → Type 0} {A B : Type 0} {R : A → Type 0} {m : Result A} {next : A → Result B} → Ends P R m → ((a : A) → R a → Refuses P (next a)) → Refuses P (m >>= next)
-refuses-after {m = accepted a} h n = n a (h.yields.holds a refl)
-refuses-after {m = refused r} h n = refuses-refused (h.refuses.holds r refl)
+pub refuses_after : {P : Refusal → Type 0} {A B : Type 0} {R : A → Type 0} {m : Result A} {next : A → Result B} → Ends P R m → ((a : A) → R a → Refuses P (next a)) → Refuses P (m >>= next)
+refuses_after {m = accepted a} h n = n a (h.yields.holds a refl)
+refuses_after {m = refused r} h n = refuses_refused (h.refuses.holds r refl)

@@ -5,33 +5,33 @@ use mathlib.Core.Bool.{Bool, true, false, cond, ◌||◌, or_assoc}
 use mathlib.Core.List.{List, [], ◌∷◌, ◌++◌}
 use mathlib.Core.Option.{Option, some}
 use lib.Dec.{eqb}
-use Rattle.refusal.specs.Lists.{firstFrom, isThere, isOneOf}
-use Rattle.refusal.proofs.BoolLaws.{or-false}
+use Rattle.refusal.specs.Lists.{first_from, is_there, is_one_of}
+use Rattle.refusal.proofs.BoolLaws.{or_false}
 
 -- a first is there or not, wherever the count begins
-there-by : (t : Bool) (a b : ℕ) (p q : Option ℕ) → isThere p ≡ isThere q → isThere (cond t (some a) p) ≡ isThere (cond t (some b) q)
-there-by true a b p q e = refl
-there-by false a b p q e = e
+there_by : (t : Bool) (a b : ℕ) (p q : Option ℕ) → is_there p ≡ is_there q → is_there (cond t (some a) p) ≡ is_there (cond t (some b) q)
+there_by true a b p q e = refl
+there_by false a b p q e = e
 
-there-from : (test : ℕ → Bool) (a b : ℕ) (ns : List ℕ) → isThere (firstFrom test a ns) ≡ isThere (firstFrom test b ns)
-unfolding firstFrom
-there-from test a b [] = refl
-there-from test a b (n ∷ ns) = there-by (test n) a b (firstFrom test (suc a) ns) (firstFrom test (suc b) ns) (there-from test (suc a) (suc b) ns)
+there_from : (test : ℕ → Bool) (a b : ℕ) (ns : List ℕ) → is_there (first_from test a ns) ≡ is_there (first_from test b ns)
+unfolding first_from
+there_from test a b [] = refl
+there_from test a b (n ∷ ns) = there_by (test n) a b (first_from test (suc a) ns) (first_from test (suc b) ns) (there_from test (suc a) (suc b) ns)
 
-there-or : (t : Bool) (a : ℕ) (p : Option ℕ) → isThere (cond t (some a) p) ≡ (t || isThere p)
-there-or true a p = refl
-there-or false a p = refl
+there_or : (t : Bool) (a : ℕ) (p : Option ℕ) → is_there (cond t (some a) p) ≡ (t || is_there p)
+there_or true a p = refl
+there_or false a p = refl
 
 -- a list with no number, and one with a number in front
-pub one-of-none : (n : ℕ) → isOneOf n [] ≡ false
-unfolding isOneOf firstFrom
-one-of-none n = refl
+pub one_of_none : (n : ℕ) → is_one_of n [] ≡ false
+unfolding is_one_of first_from
+one_of_none n = refl
 
-pub one-of-cons : (n m : ℕ) (ns : List ℕ) → isOneOf n (m ∷ ns) ≡ (eqb n m || isOneOf n ns)
-unfolding isOneOf firstFrom
-one-of-cons n m ns = there-or (eqb n m) 0 (firstFrom (eqb n) 1 ns) ∙ ap (λ (t : Bool). eqb n m || t) (there-from (eqb n) 1 0 ns)
+pub one_of_cons : (n m : ℕ) (ns : List ℕ) → is_one_of n (m ∷ ns) ≡ (eqb n m || is_one_of n ns)
+unfolding is_one_of first_from
+one_of_cons n m ns = there_or (eqb n m) 0 (first_from (eqb n) 1 ns) ∙ ap (λ (t : Bool). eqb n m || t) (there_from (eqb n) 1 0 ns)
 
 -- one with a number at the end
-pub one-of-end : (n m : ℕ) (ns : List ℕ) → isOneOf n (ns ++ (m ∷ [])) ≡ (isOneOf n ns || eqb n m)
-one-of-end n m [] = rw (one-of-cons n m [], one-of-none n, or-false (eqb n m)) refl
-one-of-end n m (a ∷ ns) = rw (one-of-cons n a (ns ++ (m ∷ [])), one-of-cons n a ns, one-of-end n m ns) (sym (or_assoc (eqb n a) (isOneOf n ns) (eqb n m)))
+pub one_of_end : (n m : ℕ) (ns : List ℕ) → is_one_of n (ns ++ (m ∷ [])) ≡ (is_one_of n ns || eqb n m)
+one_of_end n m [] = rw (one_of_cons n m [], one_of_none n, or_false (eqb n m)) refl
+one_of_end n m (a ∷ ns) = rw (one_of_cons n a (ns ++ (m ∷ [])), one_of_cons n a ns, one_of_end n m ns) (sym (or_assoc (eqb n a) (is_one_of n ns) (eqb n m)))

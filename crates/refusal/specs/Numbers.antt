@@ -2,101 +2,101 @@
 use Rattle.std.specs.Prelude.{ℕ}
 
 -- "file over 65,536 bytes"
-abbrev pub fileTooLong : ℕ
-fileTooLong = 1
+abbrev pub file_too_long : ℕ
+file_too_long = 1
 
 -- "byte not allowed"
-abbrev pub byteNotAllowed : ℕ
-byteNotAllowed = 2
+abbrev pub byte_not_allowed : ℕ
+byte_not_allowed = 2
 
 -- "line of no known kind"
-abbrev pub unknownLine : ℕ
-unknownLine = 3
+abbrev pub unknown_line : ℕ
+unknown_line = 3
 
 -- "line out of place or repeated; no `v` (answer: no `s`)"
-abbrev pub misplacedLine : ℕ
-misplacedLine = 4
+abbrev pub misplaced_line : ℕ
+misplaced_line = 4
 
 -- "`v` .. token wrong"
-abbrev pub wrongVersion : ℕ
-wrongVersion = 5
+abbrev pub wrong_version : ℕ
+wrong_version = 5
 
 -- "`e` token wrong"
-abbrev pub wrongExpectation : ℕ
-wrongExpectation = 6
+abbrev pub wrong_expectation : ℕ
+wrong_expectation = 6
 
 -- "token missing; surplus"
-abbrev pub tokenCount : ℕ
-tokenCount = 7
+abbrev pub token_count : ℕ
+token_count = 7
 
 -- "token misspelt for its place"
 abbrev pub misspelt : ℕ
 misspelt = 8
 
 -- "K not 1 to 64"
-abbrev pub notAWidth : ℕ
-notAWidth = 9
+abbrev pub not_aWidth : ℕ
+not_aWidth = 9
 
 -- "number 2^64 or more"
-abbrev pub numberTooLarge : ℕ
-numberTooLarge = 10
+abbrev pub number_too_large : ℕ
+number_too_large = 10
 
 -- "long name; 257th declaration; 1,025th line"
-abbrev pub overLimit : ℕ
-overLimit = 11
+abbrev pub over_limit : ℕ
+over_limit = 11
 
 -- "reserved or declared before"
-abbrev pub nameTaken : ℕ
-nameTaken = 12
+abbrev pub name_taken : ℕ
+name_taken = 12
 
 -- "not declared"
-abbrev pub notDeclared : ℕ
-notDeclared = 13
+abbrev pub not_declared : ℕ
+not_declared = 13
 
 -- "unknown operator"
-abbrev pub unknownOperator : ℕ
-unknownOperator = 14
+abbrev pub unknown_operator : ℕ
+unknown_operator = 14
 
 -- "type rule or `p` rule broken"
-abbrev pub typeRuleBroken : ℕ
-typeRuleBroken = 15
+abbrev pub type_rule_broken : ℕ
+type_rule_broken = 15
 
 -- "no solution word of the three"
-abbrev pub noSolutionWord : ℕ
-noSolutionWord = 16
+abbrev pub no_solution_word : ℕ
+no_solution_word = 16
 
 -- "UNSATISFIABLE or UNKNOWN"
-abbrev pub notSatisfiable : ℕ
-notSatisfiable = 17
+abbrev pub not_satisfiable : ℕ
+not_satisfiable = 17
 
 -- "value doesn't fit"
-abbrev pub valueDoesNotFit : ℕ
-valueDoesNotFit = 18
+abbrev pub value_does_not_fit : ℕ
+value_does_not_fit = 18
 
 -- "set twice"
-abbrev pub setTwice : ℕ
-setTwice = 19
+abbrev pub set_twice : ℕ
+set_twice = 19
 
 -- "variable not set"
-abbrev pub notSet : ℕ
-notSet = 20
+abbrev pub not_set : ℕ
+not_set = 20
 
 -- "table or output room too short"
-abbrev pub tooShort : ℕ
-tooShort = 21
+abbrev pub too_short : ℕ
+too_short = 21
 
 -- "writer: values don't satisfy"
-abbrev pub notSatisfied : ℕ
-notSatisfied = 22
+abbrev pub not_satisfied : ℕ
+not_satisfied = 22
 
 -- "no such variable number"
-abbrev pub noSuchVariable : ℕ
-noSuchVariable = 23
+abbrev pub no_such_variable : ℕ
+no_such_variable = 23
 
 -- "a held value doesn't fit, or a verdict above 2"
-abbrev pub heldDoesNotFit : ℕ
-heldDoesNotFit = 24
+abbrev pub held_does_not_fit : ℕ
+held_does_not_fit = 24
 
 -- "for any start, or the end, that is missing, falls or passes the room, or any listed line number, other variables' too, that is 0, too large or not above the one before it in its list"
-abbrev pub wrongIndex : ℕ
-wrongIndex = 25
+abbrev pub wrong_index : ℕ
+wrong_index = 25

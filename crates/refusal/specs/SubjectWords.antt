@@ -12,16 +12,16 @@ ascii ε = []
 ascii (c ∷ˢ s) = code c ∷ ascii s
 
 -- "constraint" and "answer" are 01's words; the others are ours
-abbrev pub subjectWord : Subject → List ℕ
-subjectWord Constraint = ascii "constraint"
-subjectWord Answer = ascii "answer"
-subjectWord Values = ascii "values"
-subjectWord Verdicts = ascii "verdicts"
-subjectWord Output = ascii "output"
-subjectWord Call = ascii "call"
-subjectWord Starts = ascii "starts"
-subjectWord Lists = ascii "lists"
-subjectWord Results = ascii "results"
+abbrev pub subject_word : Subject → List ℕ
+subject_word Constraint = ascii "constraint"
+subject_word Answer = ascii "answer"
+subject_word Values = ascii "values"
+subject_word Verdicts = ascii "verdicts"
+subject_word Output = ascii "output"
+subject_word Call = ascii "call"
+subject_word Starts = ascii "starts"
+subject_word Lists = ascii "lists"
+subject_word Results = ascii "results"
 
 -- a word as the call gives it: filled up with spaces to the longest word's ten bytes
 abbrev pub label : List ℕ → Label

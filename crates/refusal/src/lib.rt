@@ -2,7 +2,7 @@
 ghost use Rattle.std.specs.Prelude.{◌≡◌};
 ghost use Rattle.refusal.specs.declared.Gate.TheVariants.{Bar};
 ghost use Rattle.refusal.specs.Result.{refusal as refusalOf};
-ghost use Rattle.refusal.specs.SubjectWords.{subjectWord, label};
+ghost use Rattle.refusal.specs.SubjectWords.{subject_word, label};
 
 // What a refusal speaks of.
 #[derive(Drop)]
@@ -103,7 +103,7 @@ pub struct Label {
 
 impl Subject {
     pub fn word(self) -> Label
-        ensures { result ≡ label (subjectWord self) }
+        ensures { result ≡ label (subject_word self) }
     {
         match self {
             Subject::Constraint => Label {

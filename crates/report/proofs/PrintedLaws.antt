@@ -4,28 +4,28 @@ use mathlib.Core.Path.{◌≡◌, refl, ap}
 use mathlib.Core.List.{List, ◌++◌, head-eq_of_cons-eq}
 use native.Mathlib.Omega.{arith}
 use Rattle.refusal.specs.SubjectWords.{ascii}
-use Rattle.printing.specs.RefusalText.{refusalText}
+use Rattle.printing.specs.RefusalText.{refusal_text}
 use Rattle.judge.specs.declared.Overall.TheVariants.{Satisfied, Violated, Disregarded}
 use Rattle.tables.specs.declared.Tally.{Tally}
 use Rattle.tables.specs.declared.Report.{Report}
 use Rattle.tables.specs.declared.Report.TheVariants.{Tallied, Refused}
-use Rattle.tables.specs.Report.{reportOutcome}
-use Rattle.tables.proofs.ReportedLaws.{reported-exactly}
-use Rattle.report.specs.Text.{overallText, tallyText, reportText}
+use Rattle.tables.specs.Report.{report_outcome}
+use Rattle.tables.proofs.ReportedLaws.{reported_exactly}
+use Rattle.report.specs.Text.{overall_text, tally_text, report_text}
 use Rattle.report.specs.Claims.{PrintedExactly}
 
 -- every other report starts with another letter
-satisfied-only : (r : Report) (rest : List ℕ) → reportText r ≡ ascii "satisfied\n" ++ rest → (t : Tally) × (r ≡ Tallied Satisfied t)
-unfolding reportText overallText refusalText
-satisfied-only (Tallied Satisfied t) rest e = (t, refl)
-satisfied-only (Tallied (Violated n) t) rest e = let z : ⊥ = omega (arith, head-eq_of_cons-eq e) in absurd z
-satisfied-only (Tallied (Disregarded n) t) rest e = let z : ⊥ = omega (arith, head-eq_of_cons-eq e) in absurd z
-satisfied-only (Refused r) rest e = let z : ⊥ = omega (arith, head-eq_of_cons-eq e) in absurd z
+satisfied_only : (r : Report) (rest : List ℕ) → report_text r ≡ ascii "satisfied\n" ++ rest → (t : Tally) × (r ≡ Tallied Satisfied t)
+unfolding report_text overall_text refusal_text
+satisfied_only (Tallied Satisfied t) rest e = (t, refl)
+satisfied_only (Tallied (Violated n) t) rest e = let z : ⊥ = omega (arith, head-eq_of_cons-eq e) in absurd z
+satisfied_only (Tallied (Disregarded n) t) rest e = let z : ⊥ = omega (arith, head-eq_of_cons-eq e) in absurd z
+satisfied_only (Refused r) rest e = let z : ⊥ = omega (arith, head-eq_of_cons-eq e) in absurd z
 
-pub printed-exactly : PrintedExactly
-unfolding reportText overallText
-printed-exactly constraint answer =
-    let both = reported-exactly constraint answer in (
-      λ p. both.0 (satisfied-only (reportOutcome constraint answer) p.0 p.1),
-      λ s. let p = both.1 s in (tallyText p.0 ++ ascii "\n", ap reportText p.1),
+pub printed_exactly : PrintedExactly
+unfolding report_text overall_text
+printed_exactly constraint answer =
+    let both = reported_exactly constraint answer in (
+      λ p. both.0 (satisfied_only (report_outcome constraint answer) p.0 p.1),
+      λ s. let p = both.1 s in (tally_text p.0 ++ ascii "\n", ap report_text p.1),
     )

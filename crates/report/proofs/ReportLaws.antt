@@ -12,85 +12,85 @@ use Rattle.judge.specs.declared.Overall.TheVariants.{Satisfied, Violated, Disreg
 use Rattle.tables.specs.declared.Tally.{Tally}
 use Rattle.tables.specs.declared.Report.{Report}
 use Rattle.tables.specs.declared.Report.TheVariants.{Tallied, Refused}
-use Rattle.text.specs.Spelling.{maxDigits}
+use Rattle.text.specs.Spelling.{max_digits}
 use Rattle.printing.specs.Digits.{digits, counted}
 use Rattle.printing.specs.Room.{Put}
-use Rattle.printing.specs.RefusalText.{refusalText}
-use Rattle.printing.proofs.PlaceLaws.{put_then, placed-front}
-use Rattle.printing.proofs.DigitLaws.{digits-count}
-use Rattle.printing.proofs.RefusalLaws.{refusal-bound}
-use Rattle.report.specs.Text.{overallText, tallyText, reportText}
-use Rattle.report.specs.Write.{WrittenReport, reportWritten}
+use Rattle.printing.specs.RefusalText.{refusal_text}
+use Rattle.printing.proofs.PlaceLaws.{put_then, placed_front}
+use Rattle.printing.proofs.DigitLaws.{digits_count}
+use Rattle.printing.proofs.RefusalLaws.{refusal_bound}
+use Rattle.report.specs.Text.{overall_text, tally_text, report_text}
+use Rattle.report.specs.Write.{WrittenReport, report_written}
 
 -- ---- the overall verdict
-pub overall-bound : (o : Overall) → length (overallText o) ≤ 12 + maxDigits
-unfolding overallText
-overall-bound Satisfied = omega arith
-overall-bound (Violated n) = omega (arith, digits-count n)
-overall-bound (Disregarded n) = omega (arith, digits-count n)
+pub overall_bound : (o : Overall) → length (overall_text o) ≤ 12 + max_digits
+unfolding overall_text
+overall_bound Satisfied = omega arith
+overall_bound (Violated n) = omega (arith, digits_count n)
+overall_bound (Disregarded n) = omega (arith, digits_count n)
 
 -- ---- the tally
 module _ (t : Tally) where
-  pub tally-length : length (tallyText t) ≡ 35 + length (digits t.lines) + length (digits t.held) + length (digits t.violated) + length (digits t.disregarded)
-  unfolding tallyText
-  tally-length = simp length-append (omega arith)
+  pub tally_length : length (tally_text t) ≡ 35 + length (digits t.lines) + length (digits t.held) + length (digits t.violated) + length (digits t.disregarded)
+  unfolding tally_text
+  tally_length = simp length-append (omega arith)
 
-  tally-bound : length (tallyText t) ≤ 35 + 4 * maxDigits
-  tally-bound = omega (arith, tally-length, digits-count t.lines, digits-count t.held, digits-count t.violated, digits-count t.disregarded)
+  tally_bound : length (tally_text t) ≤ 35 + 4 * max_digits
+  tally_bound = omega (arith, tally_length, digits_count t.lines, digits_count t.held, digits_count t.violated, digits_count t.disregarded)
 
-  pub put-tally : {room : List ℕ} {at : ℕ} → at + length (tallyText t) ≤ length room
+  pub put_tally : {room : List ℕ} {at : ℕ} → at + length (tally_text t) ≤ length room
       → {end₁ end₂ end₃ end₄ : ℕ} {room₁ room₂ room₃ room₄ : List ℕ}
       → Put (counted (ascii "lines ") t.lines) room at end₁ room₁ → Put (counted (ascii " held ") t.held) room₁ end₁ end₂ room₂ → Put (counted (ascii " violated ") t.violated) room₂ end₂ end₃ room₃ → Put (counted (ascii " disregarded ") t.disregarded) room₃ end₃ end₄ room₄
-      → Put (tallyText t) room at end₄ room₄
-  unfolding tallyText
-  put-tally h p q r s =
-      let l = tally-length in
+      → Put (tally_text t) room at end₄ room₄
+  unfolding tally_text
+  put_tally h p q r s =
+      let l = tally_length in
       put_then h (put_then (simp length-append (omega arith)) (put_then (simp length-append (omega arith)) p q) r) s
 
 -- ---- two lines
 module _ (o : Overall) (t : Tally) where
-  pub tallied-length : length (reportText (Tallied o t)) ≡ length (overallText o) + 1 + length (tallyText t) + 1
-  unfolding reportText
-  tallied-length = simp length-append (omega arith)
+  pub tallied_length : length (report_text (Tallied o t)) ≡ length (overall_text o) + 1 + length (tally_text t) + 1
+  unfolding report_text
+  tallied_length = simp length-append (omega arith)
 
-  pub put-tallied : {room : List ℕ} → length (reportText (Tallied o t)) ≤ length room
+  pub put_tallied : {room : List ℕ} → length (report_text (Tallied o t)) ≤ length room
       → {end₁ end₂ end₃ end₄ : ℕ} {room₁ room₂ room₃ room₄ : List ℕ}
-      → Put (overallText o) room 0 end₁ room₁ → Put (ascii "\n") room₁ end₁ end₂ room₂ → Put (tallyText t) room₂ end₂ end₃ room₃ → Put (ascii "\n") room₃ end₃ end₄ room₄
-      → Put (reportText (Tallied o t)) room 0 end₄ room₄
-  unfolding reportText
-  put-tallied h p q r s =
-      let l = tallied-length in
+      → Put (overall_text o) room 0 end₁ room₁ → Put (ascii "\n") room₁ end₁ end₂ room₂ → Put (tally_text t) room₂ end₂ end₃ room₃ → Put (ascii "\n") room₃ end₃ end₄ room₄
+      → Put (report_text (Tallied o t)) room 0 end₄ room₄
+  unfolding report_text
+  put_tallied h p q r s =
+      let l = tallied_length in
       put_then (omega arith) (put_then (simp length-append (omega arith)) (put_then (simp length-append (omega arith)) p q) r) s
 
 -- ---- the one line of a refusal
 module _ (x : Refusal) where
-  pub refused-length : length (reportText (Refused x)) ≡ length (refusalText x) + 1
-  unfolding reportText
-  refused-length = length-append (refusalText x) (ascii "\n")
+  pub refused_length : length (report_text (Refused x)) ≡ length (refusal_text x) + 1
+  unfolding report_text
+  refused_length = length-append (refusal_text x) (ascii "\n")
 
-  pub put_refused : {room : List ℕ} → length (reportText (Refused x)) ≤ length room
+  pub put_refused : {room : List ℕ} → length (report_text (Refused x)) ≤ length room
       → {end₁ end₂ : ℕ} {room₁ room₂ : List ℕ}
-      → Put (refusalText x) room 0 end₁ room₁ → Put (ascii "\n") room₁ end₁ end₂ room₂
-      → Put (reportText (Refused x)) room 0 end₂ room₂
-  unfolding reportText
+      → Put (refusal_text x) room 0 end₁ room₁ → Put (ascii "\n") room₁ end₁ end₂ room₂
+      → Put (report_text (Refused x)) room 0 end₂ room₂
+  unfolding report_text
   put_refused h p q = put_then (omega arith) p q
 
 -- ---- any report: there is room for it, and what a call that wrote it answers
-abbrev maxReportBytes : ℕ
-maxReportBytes = 49 + 5 * maxDigits
+abbrev max_report_bytes : ℕ
+max_report_bytes = 49 + 5 * max_digits
 
-report-bound : (r : Report) → length (reportText r) ≤ maxReportBytes
-report-bound (Tallied o t) = omega (arith, tallied-length o t, overall-bound o, tally-bound t)
-report-bound (Refused x) = omega (arith, refused-length x, refusal-bound x)
+report_bound : (r : Report) → length (report_text r) ≤ max_report_bytes
+report_bound (Tallied o t) = omega (arith, tallied_length o t, overall_bound o, tally_bound t)
+report_bound (Refused x) = omega (arith, refused_length x, refusal_bound x)
 
-pub report-fits : (r : Report) (room : ℕ) → room ≡ maxReportBytes → length (reportText r) ≤ room
-report-fits r room e = omega (arith, report-bound r)
+pub report_fits : (r : Report) (room : ℕ) → room ≡ max_report_bytes → length (report_text r) ≤ room
+report_fits r room e = omega (arith, report_bound r)
 
-pub report-written : (r : Report) {room : List ℕ} {end : ℕ} {room' : List ℕ} → Put (reportText r) room 0 end room' → record { end = end; room = room' } ≡ reportWritten room r
-report-written r p = rw (p.ends, p.holds, zero-add, placed-front) refl
+pub report_written_lem : (r : Report) {room : List ℕ} {end : ℕ} {room' : List ℕ} → Put (report_text r) room 0 end room' → record { end = end; room = room' } ≡ report_written room r
+report_written_lem r p = rw (p.ends, p.holds, zero-add, placed_front) refl
 
-pub written-within : (r : Report) (room : List ℕ) {end : ℕ} {room' : List ℕ} → record { end = end; room = room' } ≡ reportWritten room r → end ≤ length room'
-written-within r room e =
+pub written_within : (r : Report) (room : List ℕ) {end : ℕ} {room' : List ℕ} → record { end = end; room = room' } ≡ report_written room r → end ≤ length room'
+written_within r room e =
     let ends = ap (λ (w : WrittenReport). w.end) e in
     let holds = ap (λ (w : WrittenReport). length w.room) e in
-    omega (arith, ends, holds, length-append (reportText r) (drop (length (reportText r)) room))
+    omega (arith, ends, holds, length-append (report_text r) (drop (length (report_text r)) room))

@@ -7,23 +7,23 @@ use Rattle.tables.specs.declared.Tally.{Tally}
 use Rattle.tables.specs.declared.Report.{Report}
 use Rattle.tables.specs.declared.Report.TheVariants.{Tallied, Refused}
 use Rattle.printing.specs.Digits.{counted}
-use Rattle.printing.specs.RefusalText.{refusalText}
+use Rattle.printing.specs.RefusalText.{refusal_text}
 
 -- the overall verdict; violated and disregarded name the first such line
-unfoldable pub overallText : Overall → List ℕ
-overallText Satisfied = ascii "satisfied"
-overallText (Violated n) = counted (ascii "violated ") n
-overallText (Disregarded n) = counted (ascii "disregarded ") n
+unfoldable pub overall_text : Overall → List ℕ
+overall_text Satisfied = ascii "satisfied"
+overall_text (Violated n) = counted (ascii "violated ") n
+overall_text (Disregarded n) = counted (ascii "disregarded ") n
 
 -- how many lines there are, and how many of each verdict
-unfoldable pub tallyText : Tally → List ℕ
-tallyText t =
+unfoldable pub tally_text : Tally → List ℕ
+tally_text t =
     counted (ascii "lines ") t.lines
     ++ counted (ascii " held ") t.held
     ++ counted (ascii " violated ") t.violated
     ++ counted (ascii " disregarded ") t.disregarded
 
 -- two lines; or the one line of a refusal
-unfoldable pub reportText : Report → List ℕ
-reportText (Tallied overall tally) = overallText overall ++ ascii "\n" ++ tallyText tally ++ ascii "\n"
-reportText (Refused r) = refusalText r ++ ascii "\n"
+unfoldable pub report_text : Report → List ℕ
+report_text (Tallied overall tally) = overall_text overall ++ ascii "\n" ++ tally_text tally ++ ascii "\n"
+report_text (Refused r) = refusal_text r ++ ascii "\n"

@@ -1,7 +1,7 @@
 -- What the call that writes a report answers, and what it leaves in the room.
 use Rattle.std.specs.Prelude.{ℕ, List, ◌++◌, length, drop}
 use Rattle.tables.specs.declared.Report.{Report}
-use Rattle.report.specs.Text.{reportText}
+use Rattle.report.specs.Text.{report_text}
 
 -- the length of the text, and the room at exit
 pub record WrittenReport : Type 0 where
@@ -9,5 +9,5 @@ pub record WrittenReport : Type 0 where
   pub room : List ℕ
 
 -- WRITE A REPORT: the contract of the call. The text stands in front of what was behind it
-abbrev pub reportWritten : List ℕ → Report → WrittenReport
-reportWritten room report = record { end = length (reportText report); room = reportText report ++ drop (length (reportText report)) room }
+abbrev pub report_written : List ℕ → Report → WrittenReport
+report_written room report = record { end = length (report_text report); room = report_text report ++ drop (length (report_text report)) room }

@@ -2,9 +2,9 @@
 ghost use Rattle.std.specs.Prelude.{◌+◌, ◌≤◌, ◌≡◌, length};
 ghost use Rattle.printing.specs.Room.{Put};
 ghost use Rattle.tables.specs.declared.Report.TheVariants.{Tallied as TheTallied, Refused as TheRefused};
-ghost use Rattle.tables.specs.Report.{reportOutcome};
-ghost use Rattle.report.specs.Text.{overallText, tallyText, reportText};
-ghost use Rattle.report.specs.Write.{reportWritten};
+ghost use Rattle.tables.specs.Report.{report_outcome};
+ghost use Rattle.report.specs.Text.{overall_text, tally_text, report_text};
+ghost use Rattle.report.specs.Write.{report_written};
 
 use judge::Overall;
 use printing::refusals::put_refusal;
@@ -20,8 +20,8 @@ pub const REPORT_BYTES: usize = 149;
 
 // The overall verdict, with no line end.
 pub fn put_overall(overall: Overall, room: &mut [u8], at: usize) -> usize
-    requires { at + length (overallText overall) ≤ length room.old }
-    ensures { Put (overallText overall) room.old at result room.new }
+    requires { at + length (overall_text overall) ≤ length room.old }
+    ensures { Put (overall_text overall) room.old at result room.new }
 {
     match overall {
         Overall::Satisfied => put_bytes(b"satisfied", room, at),
@@ -31,8 +31,8 @@ pub fn put_overall(overall: Overall, room: &mut [u8], at: usize) -> usize
 }
 
 fn put_tally(tally: Tally, room: &mut [u8], at: usize) -> usize
-    requires { at + length (tallyText tally) ≤ length room.old }
-    ensures { Put (tallyText tally) room.old at result room.new }
+    requires { at + length (tally_text tally) ≤ length room.old }
+    ensures { Put (tally_text tally) room.old at result room.new }
 {
     let lines = put_count(b"lines ", tally.lines as u64, room, at);
     let held = put_count(b" held ", tally.held as u64, room, lines);
@@ -41,8 +41,8 @@ fn put_tally(tally: Tally, room: &mut [u8], at: usize) -> usize
 }
 
 fn put_tallied(overall: Overall, tally: Tally, room: &mut [u8]) -> usize
-    requires { length (reportText (TheTallied overall tally)) ≤ length room.old }
-    ensures { Put (reportText (TheTallied overall tally)) room.old 0 result room.new }
+    requires { length (report_text (TheTallied overall tally)) ≤ length room.old }
+    ensures { Put (report_text (TheTallied overall tally)) room.old 0 result room.new }
 {
     let first = put_overall(overall, room, 0);
     let second = put_byte(b'\n', room, first);
@@ -51,8 +51,8 @@ fn put_tallied(overall: Overall, tally: Tally, room: &mut [u8]) -> usize
 }
 
 fn put_refused(refusal: Refusal, room: &mut [u8]) -> usize
-    requires { length (reportText (TheRefused refusal)) ≤ length room.old }
-    ensures { Put (reportText (TheRefused refusal)) room.old 0 result room.new }
+    requires { length (report_text (TheRefused refusal)) ≤ length room.old }
+    ensures { Put (report_text (TheRefused refusal)) room.old 0 result room.new }
 {
     let end = put_refusal(refusal, room, 0);
     put_byte(b'\n', room, end)
@@ -60,7 +60,7 @@ fn put_refused(refusal: Refusal, room: &mut [u8]) -> usize
 
 // Writes a report, and answers its length. There is room for any.
 pub fn write_report(report: Report, room: &mut [u8; REPORT_BYTES]) -> usize
-    ensures { record { end = result; room = room.new } ≡ reportWritten room.old report }
+    ensures { record { end = result; room = room.new } ≡ report_written room.old report }
 {
     match report {
         Report::Tallied(overall, tally) => put_tallied(overall, tally, room),
@@ -70,7 +70,7 @@ pub fn write_report(report: Report, room: &mut [u8; REPORT_BYTES]) -> usize
 
 // Writes the report on an answer to a constraint file, any bytes both, and answers its length.
 pub fn report_on(constraint: &[u8], answer: &[u8], room: &mut [u8; REPORT_BYTES]) -> usize
-    ensures { record { end = result; room = room.new } ≡ reportWritten room.old (reportOutcome constraint.now answer.now) }
+    ensures { record { end = result; room = room.new } ≡ report_written room.old (report_outcome constraint.now answer.now) }
 {
     write_report(report(constraint, answer), room)
 }

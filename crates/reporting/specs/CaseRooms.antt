@@ -5,25 +5,25 @@ use Rattle.reporting.specs.declared.cases.NextCase.{NextCase}
 use Rattle.reporting.specs.declared.cases.NextCase.TheVariants.{Case, End}
 
 -- the bytes of a file, and the entries of the three tables, at most
-abbrev pub caseBytes : ℕ
-caseBytes = 70000
+abbrev pub case_bytes : ℕ
+case_bytes = 70000
 
-abbrev pub caseValues : ℕ
-caseValues = 300
+abbrev pub case_values : ℕ
+case_values = 300
 
-abbrev pub caseVerdicts : ℕ
-caseVerdicts = 1100
+abbrev pub case_verdicts : ℕ
+case_verdicts = 1100
 
-abbrev pub caseResults : ℕ
-caseResults = 1100
+abbrev pub case_results : ℕ
+case_results = 1100
 
 -- a case that there is room for
 pub record Fitted (s : Sizes) : Type 0 where
-  pub constraint : s.constraint ≤ caseBytes
-  pub answer : s.answer ≤ caseBytes
-  pub values : s.values ≤ caseValues
-  pub verdicts : s.verdicts ≤ caseVerdicts
-  pub results : s.results ≤ caseResults
+  pub constraint : s.constraint ≤ case_bytes
+  pub answer : s.answer ≤ case_bytes
+  pub values : s.values ≤ case_values
+  pub verdicts : s.verdicts ≤ case_verdicts
+  pub results : s.results ≤ case_results
 
 abbrev pub Roomy : NextCase → Type 0
 Roomy (Case s) = Fitted s

@@ -1,6 +1,6 @@
 // What the programs share: reading bytes and numbers, tables, and printing counts and refusals.
 ghost use Rattle.std.specs.Prelude.{◌-◌, ◌≤◌, ◌<◌, ◌≡◌, length, take, drop};
-ghost use Rattle.reporting.specs.Hex.{digitValue, hexAfter};
+ghost use Rattle.reporting.specs.Hex.{digit_value, hex_after};
 
 use libc::{STDIN_FILENO, STDOUT_FILENO};
 use printing::refusals::put_refusal;
@@ -12,7 +12,7 @@ pub mod cases;
 const STEP: u64 = 1000003;
 
 fn digit(c: u8) -> u64
-    ensures { (result ≡ digitValue c) × (result < 16) }
+    ensures { (result ≡ digit_value c) × (result < 16) }
 {
     match c {
         b'0'..=b'9' => (c - b'0') as u64,
@@ -24,7 +24,7 @@ fn digit(c: u8) -> u64
 // The hexadecimal number that stands from `at` to `end`, modulo 2^64: the shift cannot overflow.
 pub fn hex(text: &[u8], at: usize, end: usize) -> u64
     requires { end ≤ length text.now }
-    ensures { result ≡ hexAfter 0 (take (end - at) (drop at text.now)) }
+    ensures { result ≡ hex_after 0 (take (end - at) (drop at text.now)) }
 {
     let mut value = 0;
     for i in at..end {

@@ -5,128 +5,128 @@ use mathlib.Core.List.{List, []}
 use native.Mathlib.Omega.{arith}
 use lib.ListN.{length, get_or, set}
 use lib.Seq.{length-take-le}
-use Rattle.edition.specs.Word.{wordBits}
+use Rattle.edition.specs.Word.{word_bits}
 use Rattle.refusal.specs.Result.{Result, accepted, refused, ◌>>=◌}
-use Rattle.refusal.proofs.ManyLaws.{many-most}
+use Rattle.refusal.proofs.ManyLaws.{many_most}
 use Rattle.arithmetic.proofs.PlaceLaws.{bits_most}
 use Rattle.constraint.specs.File.{File}
-use Rattle.constraint.specs.Read.{readFile}
+use Rattle.constraint.specs.Read.{read_file}
 use Rattle.constraint.specs.Sound.{SoundFile}
-use Rattle.constraint.proofs.SoundLaws.{accepted-is-sound, read_short}
+use Rattle.constraint.proofs.SoundLaws.{accepted_is_sound, read_short}
 use Rattle.judge.specs.declared.Overall.{Overall}
 use Rattle.judge.specs.declared.Overall.TheVariants.{Satisfied, Violated, Disregarded}
-use Rattle.judge.specs.Judge.{freshVerdicts, overallOf}
-use Rattle.judge.specs.InUse.{Tables, rowInUse, columnInUse, roomOf}
-use Rattle.judge.proofs.VerdictLaws.{column-length}
-use Rattle.judge.proofs.OverallLaws.{Named, overall-named}
+use Rattle.judge.specs.Judge.{fresh_verdicts, overall_of}
+use Rattle.judge.specs.InUse.{Tables, row_in_use, column_in_use, room_of}
+use Rattle.judge.proofs.VerdictLaws.{column_length}
+use Rattle.judge.proofs.OverallLaws.{Named, overall_named}
 use Rattle.printing.specs.Output.{written}
-use Rattle.writer.specs.Write.{writingFor, writing, writeOutcome}
-use Rattle.writer.proofs.RoundTripLaws.{written-short}
-use Rattle.tables.specs.Check.{checking, checked, checkOutcome}
-use Rattle.clean.specs.Clean.{cleaning, cleanOutcome}
+use Rattle.writer.specs.Write.{writing_for, writing, write_outcome}
+use Rattle.writer.proofs.RoundTripLaws.{written_short}
+use Rattle.tables.specs.Check.{checking, checked, check_outcome}
+use Rattle.clean.specs.Clean.{cleaning, clean_outcome}
 use Rattle.clean.specs.Claims.{Cleans}
-use Rattle.clean.proofs.ClaimLaws.{reads-back, never-longer}
-use Rattle.index.specs.Index.{indexing, indexed, indexOutcome}
+use Rattle.clean.proofs.ClaimLaws.{reads_back, never_longer}
+use Rattle.index.specs.Index.{indexing, indexed, index_outcome}
 use Rattle.index.specs.AnyIndex.{concerned}
-use Rattle.index.proofs.SelectLaws.{concerned-length}
-use Rattle.index.proofs.CountLaws.{lists-at-most}
-use Rattle.index.proofs.BuiltLaws.{indexing-yields}
+use Rattle.index.proofs.SelectLaws.{concerned_length}
+use Rattle.index.proofs.CountLaws.{lists_at_most}
+use Rattle.index.proofs.BuiltLaws.{indexing_yields}
 use Rattle.moves.specs.Step.{renewed, step}
 use Rattle.moves.specs.Gate.{Call, admitted}
-use Rattle.moves.specs.Change.{made, changed, changeBy, changeOutcome}
-use Rattle.tables.proofs.CheckingLaws.{checking-steps}
-use Rattle.moves.proofs.RenewLaws.{new-long}
-use Rattle.moves.proofs.GateLaws.{Admitted, admitted-passed}
-use Rattle.spear.specs.Pack.{decidingLine, CheckKept, ChangeKept, IndexKept, CleanKept, WriteKept}
-use Rattle.spear.proofs.PackLaws.{CheckFits, ChangeFits, WriteFits, IndexFits, check-back, change-back, write-back, index_back}
-use Rattle.spear.proofs.MostLaws.{differing-most}
-use Rattle.spear.proofs.RefusalFitsLaws.{file-fits, checking-fits, admitted-fits, indexing-fits, writing-fits, cleaning-fits}
+use Rattle.moves.specs.Change.{made, changed, change_by, change_outcome}
+use Rattle.tables.proofs.CheckingLaws.{checking_steps}
+use Rattle.moves.proofs.RenewLaws.{new_long}
+use Rattle.moves.proofs.GateLaws.{Admitted, admitted_passed}
+use Rattle.spear.specs.Pack.{deciding_line, CheckKept, ChangeKept, IndexKept, CleanKept, WriteKept}
+use Rattle.spear.proofs.PackLaws.{CheckFits, ChangeFits, WriteFits, IndexFits, check_back, change_back, write_back, index_back}
+use Rattle.spear.proofs.MostLaws.{differing_most}
+use Rattle.spear.proofs.RefusalFitsLaws.{file_fits, checking_fits, admitted_fits, indexing_fits, writing_fits, cleaning_fits}
 
 -- ---- the line of an overall verdict
-named-most : (o : Overall) (vs : List ℕ) → Named o vs → decidingLine o ≤ length vs
-named-most Satisfied vs p = omega arith
-named-most (Violated n) vs p = p.to
-named-most (Disregarded n) vs p = p.to
+named_most : (o : Overall) (vs : List ℕ) → Named o vs → deciding_line o ≤ length vs
+named_most Satisfied vs p = omega arith
+named_most (Violated n) vs p = p.to
+named_most (Disregarded n) vs p = p.to
 
-line-most : (vs : List ℕ) → decidingLine (overallOf vs) ≤ length vs
-line-most vs = named-most (overallOf vs) vs (overall-named vs)
+line_most : (vs : List ℕ) → deciding_line (overall_of vs) ≤ length vs
+line_most vs = named_most (overall_of vs) vs (overall_named vs)
 
 -- ---- the check
 module _ (constraint answer : List ℕ) (t : Tables) where
-  checked-fits : (r : Result (File × List ℕ)) → checking constraint answer (roomOf t) ≡ r → CheckFits (checked t r).reply
-  checked-fits (accepted (f, row)) e =
-      let sound = accepted-is-sound constraint f (checking-steps constraint answer (roomOf t) f row e).file in
-      omega (arith, line-most (freshVerdicts f row), column-length (λ j. j.verdict) f.variables row f.lines, sound.few-lines)
-  checked-fits (refused x) e = (checking-fits constraint answer (roomOf t)).holds x e
+  checked_fits : (r : Result (File × List ℕ)) → checking constraint answer (room_of t) ≡ r → CheckFits (checked t r).reply
+  checked_fits (accepted (f, row)) e =
+      let sound = accepted_is_sound constraint f (checking_steps constraint answer (room_of t) f row e).file in
+      omega (arith, line_most (fresh_verdicts f row), column_length (λ j. j.verdict) f.variables row f.lines, sound.few_lines)
+  checked_fits (refused x) e = (checking_fits constraint answer (room_of t)).holds x e
 
-  pub check-fits : CheckFits (checkOutcome constraint answer t).reply
-  check-fits = checked-fits (checking constraint answer (roomOf t)) refl
+  pub check_fits : CheckFits (check_outcome constraint answer t).reply
+  check_fits = checked_fits (checking constraint answer (room_of t)) refl
 
 -- ---- the change
 module _ (t : Tables) (c : Call) where
-  made-fits : (f : File) → SoundFile f → Admitted f t c → ChangeFits (made f t c).reply
+  made_fits : (f : File) → SoundFile f → Admitted f t c → ChangeFits (made f t c).reply
   unfolding made step
-  made-fits f sound p =
+  made_fits f sound p =
       let m = length f.lines in
       let i = c.change.variable in
-      let row = set (rowInUse f t.values) i c.change.value in
-      let held = columnInUse f t.verdicts in
-      let held-long = length-take-le m t.verdicts p.is-entitled.has_room.verdicts in
+      let row = set (row_in_use f t.values) i c.change.value in
+      let held = column_in_use f t.verdicts in
+      let held_long = length-take-le m t.verdicts p.is_entitled.has_room.verdicts in
       let lines = concerned f c.index i in
-      let new = renewed lines (freshVerdicts f row) held in
+      let new = renewed lines (fresh_verdicts f row) held in
       record {
-        line = omega (arith, line-most new, new-long (λ j. j.verdict) f c.index i row held held-long, held-long, sound.few-lines);
-        named = omega (arith, many-most (λ b. b) lines, concerned-length f c.index i, sound.few-lines);
-        altered = omega (arith, differing-most held new, held-long, sound.few-lines);
-        bits = omega (arith, bits_most wordBits (get_or (rowInUse f t.values) i 0) c.change.value);
+        line = omega (arith, line_most new, new_long (λ j. j.verdict) f c.index i row held held_long, held_long, sound.few_lines);
+        named = omega (arith, many_most (λ b. b) lines, concerned_length f c.index i, sound.few_lines);
+        altered = omega (arith, differing_most held new, held_long, sound.few_lines);
+        bits = omega (arith, bits_most word_bits (get_or (row_in_use f t.values) i 0) c.change.value);
       }
 
-  changed-fits : (f : File) → SoundFile f → (r : Result (Unit {0})) → admitted f t c ≡ r → ChangeFits (changed f t c r).reply
-  changed-fits f sound (accepted tt) e = made-fits f sound (admitted-passed f t c e)
-  changed-fits f sound (refused x) e = (admitted-fits f sound t c).holds x e
+  changed_fits : (f : File) → SoundFile f → (r : Result (Unit {0})) → admitted f t c ≡ r → ChangeFits (changed f t c r).reply
+  changed_fits f sound (accepted tt) e = made_fits f sound (admitted_passed f t c e)
+  changed_fits f sound (refused x) e = (admitted_fits f sound t c).holds x e
 
-  by_fits : (constraint : List ℕ) (r : Result File) → readFile constraint ≡ r → ChangeFits (changeBy r t c).reply
-  by_fits constraint (accepted f) e = changed-fits f (accepted-is-sound constraint f e) (admitted f t c) refl
-  by_fits constraint (refused x) e = (file-fits constraint).holds x e
+  by_fits : (constraint : List ℕ) (r : Result File) → read_file constraint ≡ r → ChangeFits (change_by r t c).reply
+  by_fits constraint (accepted f) e = changed_fits f (accepted_is_sound constraint f e) (admitted f t c) refl
+  by_fits constraint (refused x) e = (file_fits constraint).holds x e
 
 -- ---- the building of an index
 module _ (constraint starts lists : List ℕ) where
-  indexed-fits : (r : Result File) → indexing constraint starts lists ≡ r → IndexFits (indexed starts lists r).reply
-  indexed-fits (accepted f) e = omega (arith, lists-at-most constraint f ((indexing-yields constraint starts lists).holds f e))
-  indexed-fits (refused x) e = (indexing-fits constraint starts lists).holds x e
+  indexed_fits : (r : Result File) → indexing constraint starts lists ≡ r → IndexFits (indexed starts lists r).reply
+  indexed_fits (accepted f) e = omega (arith, lists_at_most constraint f ((indexing_yields constraint starts lists).holds f e))
+  indexed_fits (refused x) e = (indexing_fits constraint starts lists).holds x e
 
 -- ---- the cleaning
 module _ (constraint output : List ℕ) where
-  cleaned-fits : (r : Result (List ℕ)) → cleaning constraint output ≡ r → WriteFits (written output r).reply
-  cleaned-fits (accepted text) e =
+  cleaned_fits : (r : Result (List ℕ)) → cleaning constraint output ≡ r → WriteFits (written output r).reply
+  cleaned_fits (accepted text) e =
       let c : Cleans constraint text = record { room = output; outcome = ap (written output) e } in
-      let b = reads-back constraint text c in
-      omega (arith, never-longer constraint text c, read_short constraint b.0 b.1)
-  cleaned-fits (refused x) e = (cleaning-fits constraint output).holds x e
+      let b = reads_back constraint text c in
+      omega (arith, never_longer constraint text c, read_short constraint b.0 b.1)
+  cleaned_fits (refused x) e = (cleaning_fits constraint output).holds x e
 
 -- ---- the writing of an answer
 module _ (values output : List ℕ) where
-  written-fits : (constraint : List ℕ) (f : File) → readFile constraint ≡ accepted f → (r : Result (List ℕ)) → writingFor f values output ≡ r → WriteFits (written output r).reply
-  written-fits constraint f e (accepted text) q = omega (arith, written-short constraint values output text f e q)
-  written-fits constraint f e (refused x) q = (writing-fits f (accepted-is-sound constraint f e) values [] output).holds x q
+  written_fits : (constraint : List ℕ) (f : File) → read_file constraint ≡ accepted f → (r : Result (List ℕ)) → writing_for f values output ≡ r → WriteFits (written output r).reply
+  written_fits constraint f e (accepted text) q = omega (arith, written_short constraint values output text f e q)
+  written_fits constraint f e (refused x) q = (writing_fits f (accepted_is_sound constraint f e) values [] output).holds x q
 
-  by-writing : (constraint : List ℕ) (r : Result File) → readFile constraint ≡ r → WriteFits (written output (r >>= λ f. writingFor f values output)).reply
-  by-writing constraint (accepted f) e = written-fits constraint f e (writingFor f values output) refl
-  by-writing constraint (refused x) e = (file-fits constraint).holds x e
+  by_writing : (constraint : List ℕ) (r : Result File) → read_file constraint ≡ r → WriteFits (written output (r >>= λ f. writing_for f values output)).reply
+  by_writing constraint (accepted f) e = written_fits constraint f e (writing_for f values output) refl
+  by_writing constraint (refused x) e = (file_fits constraint).holds x e
 
 -- ---- nothing is lost
-pub check-kept : CheckKept
-check-kept constraint answer t = check-back (checkOutcome constraint answer t).reply (check-fits constraint answer t)
+pub check_kept : CheckKept
+check_kept constraint answer t = check_back (check_outcome constraint answer t).reply (check_fits constraint answer t)
 
-pub change-kept : ChangeKept
-change-kept constraint t c = change-back (changeOutcome constraint t c).reply (by_fits t c constraint (readFile constraint) refl)
+pub change_kept : ChangeKept
+change_kept constraint t c = change_back (change_outcome constraint t c).reply (by_fits t c constraint (read_file constraint) refl)
 
 pub index_kept : IndexKept
-index_kept constraint starts lists = index_back (indexOutcome constraint starts lists).reply (indexed-fits constraint starts lists (indexing constraint starts lists) refl)
+index_kept constraint starts lists = index_back (index_outcome constraint starts lists).reply (indexed_fits constraint starts lists (indexing constraint starts lists) refl)
 
-pub clean-kept : CleanKept
-clean-kept constraint output = write-back (cleanOutcome constraint output).reply (cleaned-fits constraint output (cleaning constraint output) refl)
+pub clean_kept : CleanKept
+clean_kept constraint output = write_back (clean_outcome constraint output).reply (cleaned_fits constraint output (cleaning constraint output) refl)
 
 pub write_kept : WriteKept
 unfolding writing
-write_kept constraint values output = write-back (writeOutcome constraint values output).reply (by-writing values output constraint (readFile constraint) refl)
+write_kept constraint values output = write_back (write_outcome constraint values output).reply (by_writing values output constraint (read_file constraint) refl)

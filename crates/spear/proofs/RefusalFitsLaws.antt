@@ -9,119 +9,119 @@ use lib.ListN.{length, length-take}
 use Rattle.refusal.specs.declared.Refusal.{Refusal}
 use Rattle.refusal.specs.declared.Subject.{Subject}
 use Rattle.refusal.specs.declared.Subject.TheVariants.{Values, Verdicts, Output, Call as CallsNumbers, Starts, Lists, Results}
-use Rattle.refusal.specs.Numbers.{valueDoesNotFit, tooShort, notSatisfied, noSuchVariable, heldDoesNotFit, wrongIndex}
-use Rattle.refusal.specs.Lists.{firstFrom}
+use Rattle.refusal.specs.Numbers.{value_does_not_fit, too_short, not_satisfied, no_such_variable, held_does_not_fit, wrong_index}
+use Rattle.refusal.specs.Lists.{first_from}
 use Rattle.refusal.specs.Result.{refusal}
 use Rattle.refusal.proofs.ListLaws.{first_below}
-use Rattle.refusal.proofs.RefusesLaws.{Refuses, refuses-accepted, refuses-bind, refuses-then, refuses-ensure, refuses-test, refuses-none, refuses-also}
+use Rattle.refusal.proofs.RefusesLaws.{Refuses, refuses_accepted, refuses_bind, refuses_then, refuses_ensure, refuses_test, refuses_none, refuses_also}
 use Rattle.constraint.specs.File.{Variable, File, width_at}
-use Rattle.constraint.specs.Read.{readFile}
+use Rattle.constraint.specs.Read.{read_file}
 use Rattle.constraint.specs.Sound.{SoundFile}
-use Rattle.judge.specs.Judge.{verdictDisregarded, freshVerdicts, overallOf}
-use Rattle.judge.specs.InUse.{Tables, rowInUse, columnInUse, Room, roomOf, tablesRoom, valueWords, firstUnfit}
-use Rattle.judge.proofs.RoomLaws.{room-refuses}
+use Rattle.judge.specs.Judge.{verdict_disregarded, fresh_verdicts, overall_of}
+use Rattle.judge.specs.InUse.{Tables, row_in_use, column_in_use, Room, room_of, tables_room, value_words, first_unfit}
+use Rattle.judge.proofs.RoomLaws.{room_refuses}
 use Rattle.judge.proofs.UnfitLaws.{unfit}
-use Rattle.answer.specs.Read.{readAnswer}
-use Rattle.writer.specs.Text.{answerText}
-use Rattle.writer.specs.Write.{isSatisfied, writingFor}
-use Rattle.clean_text.specs.Text.{cleanText}
-use Rattle.tables.specs.Check.{checkingFor, checking}
+use Rattle.answer.specs.Read.{read_answer}
+use Rattle.writer.specs.Text.{answer_text}
+use Rattle.writer.specs.Write.{is_satisfied, writing_for}
+use Rattle.clean_text.specs.Text.{clean_text}
+use Rattle.tables.specs.Check.{checking_for, checking}
 use Rattle.clean.specs.Clean.{cleaning}
-use Rattle.index.specs.Index.{Index, ownIndex, indexing}
-use Rattle.index.specs.AnyIndex.{startsFit, listsFit, indexFits}
+use Rattle.index.specs.Index.{Index, own_index, indexing}
+use Rattle.index.specs.AnyIndex.{starts_fit, lists_fit, index_fits}
 use Rattle.moves.specs.Step.{Change}
-use Rattle.moves.specs.Gate.{Call, changeFits, entitled, admitted}
+use Rattle.moves.specs.Gate.{Call, change_fits, entitled, admitted}
 use Rattle.spear.proofs.PackLaws.{RefusalFits}
-use Rattle.spear.proofs.FileNumberLaws.{FileNumber, file-numbered, answer-numbered}
-use Rattle.spear.proofs.MostLaws.{zip-most}
+use Rattle.spear.proofs.FileNumberLaws.{FileNumber, file_numbered, answer_numbered}
+use Rattle.spear.proofs.MostLaws.{zip_most}
 
 -- ---- the two files
 number_fits : (r : Refusal) → FileNumber r → RefusalFits r
 number_fits r h = record { number = omega (arith, h.most); position = omega (arith, h.position) }
 
-pub file-fits : (constraint : List ℕ) → Refuses RefusalFits (readFile constraint)
-file-fits constraint = refuses-also number_fits (file-numbered constraint)
+pub file_fits : (constraint : List ℕ) → Refuses RefusalFits (read_file constraint)
+file_fits constraint = refuses_also number_fits (file_numbered constraint)
 
-answer-fits : (xs : List Variable) (answer : List ℕ) → Refuses RefusalFits (readAnswer xs answer)
-answer-fits xs answer = refuses-also number_fits (answer-numbered xs answer)
+answer_fits : (xs : List Variable) (answer : List ℕ) → Refuses RefusalFits (read_answer xs answer)
+answer_fits xs answer = refuses_also number_fits (answer_numbered xs answer)
 
 -- ---- the check
 -- a refusal with a small number, at the start of what it speaks of
-at-start : (s : Subject) (n : ℕ) → n < 2 ^ 8 → RefusalFits (refusal s n 0)
-at-start s n h = record { number = h; position = omega arith }
+at_start : (s : Subject) (n : ℕ) → n < 2 ^ 8 → RefusalFits (refusal s n 0)
+at_start s n h = record { number = h; position = omega arith }
 
 -- the room of the tables
-tables-fit : (f : File) (lent : Room) → Refuses RefusalFits (tablesRoom f lent)
-tables-fit f lent = room-refuses f lent (at-start Values tooShort (omega arith)) (at-start Verdicts tooShort (omega arith)) (at-start Results tooShort (omega arith))
+tables_fit : (f : File) (lent : Room) → Refuses RefusalFits (tables_room f lent)
+tables_fit f lent = room_refuses f lent (at_start Values too_short (omega arith)) (at_start Verdicts too_short (omega arith)) (at_start Results too_short (omega arith))
 
-pub checking-fits : (constraint answer : List ℕ) (lent : Room) → Refuses RefusalFits (checking constraint answer lent)
-unfolding checking checkingFor
-checking-fits constraint answer lent =
-    refuses-bind (file-fits constraint) λ f.
-    refuses-bind (refuses-bind (answer-fits f.variables answer) λ row.
-    refuses-then (tables-fit f lent)
-    refuses-accepted) λ row.
-    refuses-accepted
+pub checking_fits : (constraint answer : List ℕ) (lent : Room) → Refuses RefusalFits (checking constraint answer lent)
+unfolding checking checking_for
+checking_fits constraint answer lent =
+    refuses_bind (file_fits constraint) λ f.
+    refuses_bind (refuses_bind (answer_fits f.variables answer) λ row.
+    refuses_then (tables_fit f lent)
+    refuses_accepted) λ row.
+    refuses_accepted
 
 -- ---- the numbers of a change, its index, and what it finds in the tables
-numbers_fit : (f : File) (c : Change) → Refuses RefusalFits (changeFits f c)
-unfolding changeFits
-numbers_fit f c =
-    refuses-ensure (ltb c.variable (length f.variables)) _ (at-start CallsNumbers noSuchVariable (omega arith))
-    (refuses-test (ltb c.value (2 ^ width_at f.variables c.variable)) _ (at-start CallsNumbers valueDoesNotFit (omega arith)))
+numbers_fit_lem : (f : File) (c : Change) → Refuses RefusalFits (change_fits f c)
+unfolding change_fits
+numbers_fit_lem f c =
+    refuses_ensure (ltb c.variable (length f.variables)) _ (at_start CallsNumbers no_such_variable (omega arith))
+    (refuses_test (ltb c.value (2 ^ width_at f.variables c.variable)) _ (at_start CallsNumbers value_does_not_fit (omega arith)))
 
-index-fits : (f : File) (x : Option Index) → Refuses RefusalFits (indexFits f x)
-index-fits f none = refuses-accepted
-index-fits f (some x) =
-    refuses-ensure (startsFit (length f.variables) x) _ (at-start Starts wrongIndex (omega arith))
-    (refuses-test (listsFit (length f.variables) (length f.lines) x) _ (at-start Lists wrongIndex (omega arith)))
+index_fits_lem : (f : File) (x : Option Index) → Refuses RefusalFits (index_fits f x)
+index_fits_lem f none = refuses_accepted
+index_fits_lem f (some x) =
+    refuses_ensure (starts_fit (length f.variables) x) _ (at_start Starts wrong_index (omega arith))
+    (refuses_test (lists_fit (length f.variables) (length f.lines) x) _ (at_start Lists wrong_index (omega arith)))
 
 -- no more values are held than there are variables
-held-most : (xs : List Variable) (values : List ℕ) → length (valueWords xs values) ≤ length xs
-unfolding valueWords
-held-most xs values = zip-most _ xs values
+held_most : (xs : List Variable) (values : List ℕ) → length (value_words xs values) ≤ length xs
+unfolding value_words
+held_most xs values = zip_most _ xs values
 
 module _ (f : File) (sound : SoundFile f) (values verdicts : List ℕ) where
   -- the first entry that does not fit is one of those in use
-  unfit-place : (i : ℕ) → firstUnfit f.variables (rowInUse f values) ≡ some i → RefusalFits (refusal Values heldDoesNotFit i)
-  unfolding firstUnfit
-  unfit-place i e = record { number = omega arith; position = omega (arith, first_below unfit 0 i (valueWords f.variables (rowInUse f values)) e, held-most f.variables (rowInUse f values), sound.few-variables) }
+  unfit_place : (i : ℕ) → first_unfit f.variables (row_in_use f values) ≡ some i → RefusalFits (refusal Values held_does_not_fit i)
+  unfolding first_unfit
+  unfit_place i e = record { number = omega arith; position = omega (arith, first_below unfit 0 i (value_words f.variables (row_in_use f values)) e, held_most f.variables (row_in_use f values), sound.few_variables) }
 
-  verdict-place : (i : ℕ) → firstFrom (ltb verdictDisregarded) 0 (columnInUse f verdicts) ≡ some i → RefusalFits (refusal Verdicts heldDoesNotFit i)
-  verdict-place i e = record { number = omega arith; position = omega (arith, first_below (ltb verdictDisregarded) 0 i (columnInUse f verdicts) e, length-take (length f.lines) verdicts, sound.few-lines) }
+  verdict_place : (i : ℕ) → first_from (ltb verdict_disregarded) 0 (column_in_use f verdicts) ≡ some i → RefusalFits (refusal Verdicts held_does_not_fit i)
+  verdict_place i e = record { number = omega arith; position = omega (arith, first_below (ltb verdict_disregarded) 0 i (column_in_use f verdicts) e, length-take (length f.lines) verdicts, sound.few_lines) }
 
   -- ---- the writing of an answer
-  pub writing-fits : (output : List ℕ) → Refuses RefusalFits (writingFor f values output)
-  unfolding writingFor
-  writing-fits output =
-      refuses-ensure (leb (length f.variables) (length values)) _ (at-start Values tooShort (omega arith)) (
-      refuses-then (refuses-none (firstUnfit f.variables (rowInUse f values)) _ unfit-place) (
-      refuses-ensure (isSatisfied (overallOf (freshVerdicts f (rowInUse f values)))) _ (at-start Values notSatisfied (omega arith)) (
-      refuses-ensure (leb (length (answerText f.variables (rowInUse f values))) (length output)) _ (at-start Output tooShort (omega arith))
-      refuses-accepted)))
+  pub writing_fits : (output : List ℕ) → Refuses RefusalFits (writing_for f values output)
+  unfolding writing_for
+  writing_fits output =
+      refuses_ensure (leb (length f.variables) (length values)) _ (at_start Values too_short (omega arith)) (
+      refuses_then (refuses_none (first_unfit f.variables (row_in_use f values)) _ unfit_place) (
+      refuses_ensure (is_satisfied (overall_of (fresh_verdicts f (row_in_use f values)))) _ (at_start Values not_satisfied (omega arith)) (
+      refuses_ensure (leb (length (answer_text f.variables (row_in_use f values))) (length output)) _ (at_start Output too_short (omega arith))
+      refuses_accepted)))
 
 -- ---- the change
-pub admitted-fits : (f : File) → SoundFile f → (t : Tables) (c : Call) → Refuses RefusalFits (admitted f t c)
+pub admitted_fits : (f : File) → SoundFile f → (t : Tables) (c : Call) → Refuses RefusalFits (admitted f t c)
 unfolding admitted entitled
-admitted-fits f sound t c =
-    refuses-then (refuses-then (tables-fit f (roomOf t)) (numbers_fit f c.change)) (
-    refuses-then (refuses-none (firstUnfit f.variables (rowInUse f t.values)) _ (unfit-place f sound t.values t.verdicts)) (
-    refuses-then (refuses-none (firstFrom (ltb verdictDisregarded) 0 (columnInUse f t.verdicts)) _ (verdict-place f sound t.values t.verdicts))
-    (index-fits f c.index)))
+admitted_fits f sound t c =
+    refuses_then (refuses_then (tables_fit f (room_of t)) (numbers_fit_lem f c.change)) (
+    refuses_then (refuses_none (first_unfit f.variables (row_in_use f t.values)) _ (unfit_place f sound t.values t.verdicts)) (
+    refuses_then (refuses_none (first_from (ltb verdict_disregarded) 0 (column_in_use f t.verdicts)) _ (verdict_place f sound t.values t.verdicts))
+    (index_fits_lem f c.index)))
 
 -- ---- the building of an index
-pub indexing-fits : (constraint starts lists : List ℕ) → Refuses RefusalFits (indexing constraint starts lists)
+pub indexing_fits : (constraint starts lists : List ℕ) → Refuses RefusalFits (indexing constraint starts lists)
 unfolding indexing
-indexing-fits constraint starts lists =
-    refuses-bind (file-fits constraint) λ f.
-    refuses-ensure (leb (length (ownIndex f).starts) (length starts)) _ (at-start Starts tooShort (omega arith)) (
-    refuses-ensure (leb (length (ownIndex f).lists) (length lists)) _ (at-start Lists tooShort (omega arith))
-    refuses-accepted)
+indexing_fits constraint starts lists =
+    refuses_bind (file_fits constraint) λ f.
+    refuses_ensure (leb (length (own_index f).starts) (length starts)) _ (at_start Starts too_short (omega arith)) (
+    refuses_ensure (leb (length (own_index f).lists) (length lists)) _ (at_start Lists too_short (omega arith))
+    refuses_accepted)
 
 -- ---- the cleaning
-pub cleaning-fits : (constraint output : List ℕ) → Refuses RefusalFits (cleaning constraint output)
+pub cleaning_fits : (constraint output : List ℕ) → Refuses RefusalFits (cleaning constraint output)
 unfolding cleaning
-cleaning-fits constraint output =
-    refuses-bind (file-fits constraint) λ f.
-    refuses-ensure (leb (length (cleanText f)) (length output)) _ (at-start Output tooShort (omega arith))
-    refuses-accepted
+cleaning_fits constraint output =
+    refuses_bind (file_fits constraint) λ f.
+    refuses_ensure (leb (length (clean_text f)) (length output)) _ (at_start Output too_short (omega arith))
+    refuses_accepted

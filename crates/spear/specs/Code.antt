@@ -1,30 +1,30 @@
 -- The one number that a C program gets: "0 satisfied, 1 violated, 2 disregarded, or 100 plus the refusal number".
 use Rattle.std.specs.Prelude.{ℕ, ◌+◌, ◌≤◌, ◌≡◌, ◌↔◌, List}
-use Rattle.judge.specs.Judge.{overallNumber}
+use Rattle.judge.specs.Judge.{overall_number}
 use Rattle.tables.specs.declared.Report.{Report}
 use Rattle.tables.specs.declared.Report.TheVariants.{Tallied, Refused}
-use Rattle.tables.specs.Report.{reportOutcome}
-use Rattle.tables.specs.Claims.{Satisfies, anyRoom}
+use Rattle.tables.specs.Report.{report_outcome}
+use Rattle.tables.specs.Claims.{Satisfies, any_room}
 
 -- the number of a report
 abbrev pub code_of : Report → ℕ
-code_of (Tallied o t) = overallNumber o
+code_of (Tallied o t) = overall_number o
 code_of (Refused r) = 100 + r.number
 
 -- SPEAR_CHECK: the contract of the call
-abbrev pub checkCode : List ℕ → List ℕ → ℕ
-checkCode constraint answer = code_of (reportOutcome constraint answer)
+abbrev pub check_code : List ℕ → List ℕ → ℕ
+check_code constraint answer = code_of (report_outcome constraint answer)
 
 -- WHAT IS CLAIMED OF IT
 
 -- it is 0 exactly when the answer satisfies the constraint file
 abbrev pub ZeroExactly : Type 0
-ZeroExactly = (constraint answer : List ℕ) → (checkCode constraint answer ≡ 0) ↔ Satisfies constraint answer anyRoom
+ZeroExactly = (constraint answer : List ℕ) → (check_code constraint answer ≡ 0) ↔ Satisfies constraint answer any_room
 
 -- it is 0, 1 or 2, or 101 to 120
 pub data IsCode (n : ℕ) : Type 0 where
-  of-verdict : n ≤ 2 → IsCode n
-  of-refusal : 101 ≤ n → n ≤ 120 → IsCode n
+  of_verdict : n ≤ 2 → IsCode n
+  of_refusal : 101 ≤ n → n ≤ 120 → IsCode n
 
 abbrev pub CodesAre : Type 0
-CodesAre = (constraint answer : List ℕ) → IsCode (checkCode constraint answer)
+CodesAre = (constraint answer : List ℕ) → IsCode (check_code constraint answer)

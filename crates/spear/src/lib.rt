@@ -2,14 +2,14 @@
 ghost use Rattle.std.specs.Prelude.{◌≡◌};
 ghost use Rattle.std.proofs.Math.Option.{none, some};
 ghost use Rattle.judge.specs.InUse.{tables_of};
-ghost use Rattle.tables.specs.Check.{checkOutcome};
-ghost use Rattle.writer.specs.Write.{writeOutcome};
-ghost use Rattle.clean.specs.Clean.{cleanOutcome};
-ghost use Rattle.index.specs.Index.{index_of, indexOutcome};
+ghost use Rattle.tables.specs.Check.{check_outcome};
+ghost use Rattle.writer.specs.Write.{write_outcome};
+ghost use Rattle.clean.specs.Clean.{clean_outcome};
+ghost use Rattle.index.specs.Index.{index_of, index_outcome};
 ghost use Rattle.moves.specs.Gate.{changing};
-ghost use Rattle.moves.specs.Change.{changeOutcome};
-ghost use Rattle.spear.specs.Code.{code_of, checkCode};
-ghost use Rattle.spear.specs.Pack.{packedCheck, packedChange, packedWrite, packedIndex};
+ghost use Rattle.moves.specs.Change.{change_outcome};
+ghost use Rattle.spear.specs.Code.{code_of, check_code};
+ghost use Rattle.spear.specs.Pack.{packed_check, packed_change, packed_write, packed_index};
 
 use clean::clean;
 use index::index;
@@ -39,7 +39,7 @@ fn code_of(report: Report) -> u32
 // Checks an answer against a constraint file, any bytes both; the tables are local to the call.
 #[unsafe(no_mangle)]
 pub extern "C" fn spear_check(constraints: &[u8], answer: &[u8]) -> u32
-    ensures { result ≡ checkCode constraints.now answer.now }
+    ensures { result ≡ check_code constraints.now answer.now }
 {
     code_of(report(constraints, answer))
 }
@@ -53,7 +53,7 @@ pub extern "C" fn spear_check_tables(
     verdicts: &mut [u8],
     results: &mut [u64],
 ) -> u64
-    ensures { record { word = result; tables = tables_of values.new verdicts.new results.new } ≡ packedCheck (checkOutcome constraints.now answer.now (tables_of values.old verdicts.old results.old)) }
+    ensures { record { word = result; tables = tables_of values.new verdicts.new results.new } ≡ packed_check (check_outcome constraints.now answer.now (tables_of values.old verdicts.old results.old)) }
 {
     pack_check(check(constraints, answer, values, verdicts, results))
 }
@@ -68,7 +68,7 @@ pub extern "C" fn spear_change(
     variable: usize,
     value: u64,
 ) -> u64
-    ensures { record { word = result; tables = tables_of values.new verdicts.new results.new } ≡ packedChange (changeOutcome constraints.now (tables_of values.old verdicts.old results.old) (changing variable value none)) }
+    ensures { record { word = result; tables = tables_of values.new verdicts.new results.new } ≡ packed_change (change_outcome constraints.now (tables_of values.old verdicts.old results.old) (changing variable value none)) }
 {
     pack_change(change(constraints, values, verdicts, results, variable, value))
 }
@@ -76,7 +76,7 @@ pub extern "C" fn spear_change(
 // The index of a constraint file, into the caller's two tables.
 #[unsafe(no_mangle)]
 pub extern "C" fn spear_index(constraints: &[u8], starts: &mut [u32], lists: &mut [u32]) -> u64
-    ensures { record { word = result; starts = starts.new; lists = lists.new } ≡ packedIndex (indexOutcome constraints.now starts.old lists.old) }
+    ensures { record { word = result; starts = starts.new; lists = lists.new } ≡ packed_index (index_outcome constraints.now starts.old lists.old) }
 {
     pack_index(index(constraints, starts, lists))
 }
@@ -93,7 +93,7 @@ pub extern "C" fn spear_change_through(
     variable: usize,
     value: u64,
 ) -> u64
-    ensures { record { word = result; tables = tables_of values.new verdicts.new results.new } ≡ packedChange (changeOutcome constraints.now (tables_of values.old verdicts.old results.old) (changing variable value (some (index_of starts.now lists.now)))) }
+    ensures { record { word = result; tables = tables_of values.new verdicts.new results.new } ≡ packed_change (change_outcome constraints.now (tables_of values.old verdicts.old results.old) (changing variable value (some (index_of starts.now lists.now)))) }
 {
     pack_change(change_through(
         constraints,
@@ -110,7 +110,7 @@ pub extern "C" fn spear_change_through(
 // The clean spelling of a constraint file, into the caller's room.
 #[unsafe(no_mangle)]
 pub extern "C" fn spear_clean(constraints: &[u8], output: &mut [u8]) -> u64
-    ensures { record { word = result; output = output.new } ≡ packedWrite (cleanOutcome constraints.now output.old) }
+    ensures { record { word = result; output = output.new } ≡ packed_write (clean_outcome constraints.now output.old) }
 {
     pack_write(clean(constraints, output))
 }
@@ -118,7 +118,7 @@ pub extern "C" fn spear_clean(constraints: &[u8], output: &mut [u8]) -> u64
 // The answer with the caller's values, into the caller's room.
 #[unsafe(no_mangle)]
 pub extern "C" fn spear_write(constraints: &[u8], values: &[u64], output: &mut [u8]) -> u64
-    ensures { record { word = result; output = output.new } ≡ packedWrite (writeOutcome constraints.now values.now output.old) }
+    ensures { record { word = result; output = output.new } ≡ packed_write (write_outcome constraints.now values.now output.old) }
 {
     pack_write(write(constraints, values, output))
 }

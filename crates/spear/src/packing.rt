@@ -1,6 +1,6 @@
 // A reply as one word.
 ghost use Rattle.std.specs.Prelude.{◌≡◌, ◌<◌};
-ghost use Rattle.spear.specs.Pack.{verdictWord, refusalWord, doneWord, decidingLine, subjectNumber, packRefusal, packCheck, packChange, packWrite, packIndex};
+ghost use Rattle.spear.specs.Pack.{verdict_word, refusal_word, done_word, deciding_line, subject_number, pack_refusal, pack_check, pack_change, pack_write, pack_index};
 
 use index::IndexReply;
 use judge::Overall;
@@ -37,7 +37,7 @@ const KIND_DONE: u64 = 4;
 
 fn verdict_word(kind: u64, line: u64, named: u64, altered: u64, bits: u64) -> u64
     requires { kind < 256 }
-    ensures { result ≡ verdictWord kind line named altered bits }
+    ensures { result ≡ verdict_word kind line named altered bits }
 {
     kind + line % NUMBER * AT_8
         + named % NUMBER * AT_24
@@ -46,19 +46,19 @@ fn verdict_word(kind: u64, line: u64, named: u64, altered: u64, bits: u64) -> u6
 }
 
 fn refusal_word(number: u64, subject: u64, position: u64) -> u64
-    ensures { result ≡ refusalWord number subject position }
+    ensures { result ≡ refusal_word number subject position }
 {
     KIND_REFUSED + number % BYTE * AT_8 + subject % BYTE * AT_16 + position % POSITION * AT_24
 }
 
 fn done_word(length: u64) -> u64
-    ensures { result ≡ doneWord length }
+    ensures { result ≡ done_word length }
 {
     KIND_DONE + length % LENGTH * AT_8
 }
 
 fn deciding_line(overall: Overall) -> u64
-    ensures { result ≡ decidingLine overall }
+    ensures { result ≡ deciding_line overall }
 {
     match overall {
         Overall::Satisfied => 0,
@@ -68,7 +68,7 @@ fn deciding_line(overall: Overall) -> u64
 }
 
 fn subject_number(subject: Subject) -> u64
-    ensures { result ≡ subjectNumber subject }
+    ensures { result ≡ subject_number subject }
 {
     match subject {
         Subject::Constraint => 0,
@@ -84,7 +84,7 @@ fn subject_number(subject: Subject) -> u64
 }
 
 fn pack_refusal(refusal: Refusal) -> u64
-    ensures { result ≡ packRefusal refusal }
+    ensures { result ≡ pack_refusal refusal }
 {
     let subject = refusal.subject;
     refusal_word(
@@ -95,7 +95,7 @@ fn pack_refusal(refusal: Refusal) -> u64
 }
 
 pub(crate) fn pack_check(reply: CheckReply) -> u64
-    ensures { result ≡ packCheck reply }
+    ensures { result ≡ pack_check reply }
 {
     match reply {
         CheckReply::Checked(o) => verdict_word(overall_number(o) as u64, deciding_line(o), 0, 0, 0),
@@ -104,7 +104,7 @@ pub(crate) fn pack_check(reply: CheckReply) -> u64
 }
 
 pub(crate) fn pack_change(reply: ChangeReply) -> u64
-    ensures { result ≡ packChange reply }
+    ensures { result ≡ pack_change reply }
 {
     match reply {
         ChangeReply::Changed(e) => {
@@ -122,7 +122,7 @@ pub(crate) fn pack_change(reply: ChangeReply) -> u64
 }
 
 pub(crate) fn pack_write(reply: WriteReply) -> u64
-    ensures { result ≡ packWrite reply }
+    ensures { result ≡ pack_write reply }
 {
     match reply {
         WriteReply::Written(n) => done_word(n as u64),
@@ -131,7 +131,7 @@ pub(crate) fn pack_write(reply: WriteReply) -> u64
 }
 
 pub(crate) fn pack_index(reply: IndexReply) -> u64
-    ensures { result ≡ packIndex reply }
+    ensures { result ≡ pack_index reply }
 {
     match reply {
         IndexReply::Indexed(n) => done_word(n as u64),

@@ -11,7 +11,7 @@ use borrow.Author.Tests.{eq-eqb, leb-true, not-true}
 use Rattle.edition.specs.declared.Edition.{Edition}
 use Rattle.refusal.specs.Lists.{every}
 use Rattle.refusal.specs.SubjectWords.{ascii}
-use Rattle.refusal.proofs.BoolLaws.{and-true}
+use Rattle.refusal.proofs.BoolLaws.{and_true}
 use Rattle.refusal.proofs.ResultLaws.{never}
 use Rattle.arithmetic.specs.declared.Operator.{Operator}
 use Rattle.arithmetic.specs.declared.Operator.TheVariants.{Combine, Not, Implies, Compare, Ite, Compute, Divide, Move, Trun, Extend, Conc, Extr}
@@ -21,11 +21,11 @@ use Rattle.arithmetic.specs.declared.Arithmetic.TheVariants.{Add, Sub, Mul}
 use Rattle.arithmetic.specs.declared.Division.TheVariants.{Udiv, Sdiv, Urem, Srem}
 use Rattle.arithmetic.specs.declared.Shift.TheVariants.{Shl, Ashr, Lshr}
 use Rattle.arithmetic.specs.declared.Extension.TheVariants.{Sext, Zext}
-use Rattle.arithmetic.specs.Numbering.{bitwiseNumber, comparisonNumber, arithmeticNumber, divisionNumber, shiftNumber, extensionNumber, operatorNumber}
+use Rattle.arithmetic.specs.Numbering.{bitwise_number, comparison_number, arithmetic_number, division_number, shift_number, extension_number, operator_number}
 use Rattle.text.specs.Bytes.{same}
 use Rattle.text.proofs.NameLaws.{same_true}
-use Rattle.text.proofs.SeenLaws.{isSeen}
-use Rattle.spelling.specs.Operators.{bitwiseSpellings, predicateSpellings, arithmeticSpellings, shiftAndCastSpellings, spellings, operatorSpelt, operatorNamed, spellingIn, spellingOf}
+use Rattle.text.proofs.SeenLaws.{is_seen}
+use Rattle.spelling.specs.Operators.{bitwise_spellings, predicate_spellings, arithmetic_spellings, shift_and_cast_spellings, spellings, operator_spelt, operator_named, spelling_in, spelling_of}
 use Rattle.spelling.specs.Claims.{SpellsExactly}
 
 -- an entry of a table passes a test, spells s, and is for op
@@ -36,44 +36,44 @@ record Entry (test : String × Operator → Bool) (s : List ℕ) (op : Operator)
   is : entry.1 ≡ op
 
 -- what a table spells stands in the table
-spelt-by : (test : String × Operator → Bool) (s : List ℕ) (op : Operator) (xs : List (String × Operator)) → every test xs ≡ true → operatorSpelt s xs ≡ some op → Entry test s op
-unfolding every operatorSpelt
-spelt-by test s op [] h e = never (cc e)
-spelt-by test s op (x ∷ xs) h e = let p = and-true (test x) (every test xs) h in go p.0 (same (ascii x.0) s) refl (spelt-by test s op xs p.1) e
+spelt_by : (test : String × Operator → Bool) (s : List ℕ) (op : Operator) (xs : List (String × Operator)) → every test xs ≡ true → operator_spelt s xs ≡ some op → Entry test s op
+unfolding every operator_spelt
+spelt_by test s op [] h e = never (cc e)
+spelt_by test s op (x ∷ xs) h e = let p = and_true (test x) (every test xs) h in go p.0 (same (ascii x.0) s) refl (spelt_by test s op xs p.1) e
   where
-    go : test x ≡ true → (t : Bool) → same (ascii x.0) s ≡ t → (operatorSpelt s xs ≡ some op → Entry test s op) → cond t (some x.1) (operatorSpelt s xs) ≡ some op → Entry test s op
+    go : test x ≡ true → (t : Bool) → same (ascii x.0) s ≡ t → (operator_spelt s xs ≡ some op → Entry test s op) → cond t (some x.1) (operator_spelt s xs) ≡ some op → Entry test s op
     go k true d later q = record { entry = x; passes = k; spells = same_true (ascii x.0) s d; is = cc q }
     go k false d later q = later q
 
 -- the operator of an entry has another number
-abbrev otherNumber : ℕ → String × Operator → Bool
-otherNumber n x = not (eqb n (operatorNumber x.1))
+abbrev other_number : ℕ → String × Operator → Bool
+other_number n x = not (eqb n (operator_number x.1))
 
 -- no two entries are for the same operator
 abbrev unlike : List (String × Operator) → Bool
 unlike [] = true
-unlike (x ∷ xs) = every (otherNumber (operatorNumber x.1)) xs && unlike xs
+unlike (x ∷ xs) = every (other_number (operator_number x.1)) xs && unlike xs
 
 -- in such a table, whatever spells an operator is its spelling
-own : (s : List ℕ) (op : Operator) (xs : List (String × Operator)) → unlike xs ≡ true → operatorSpelt s xs ≡ some op → s ≡ spellingIn xs op
-unfolding operatorSpelt spellingIn
+own : (s : List ℕ) (op : Operator) (xs : List (String × Operator)) → unlike xs ≡ true → operator_spelt s xs ≡ some op → s ≡ spelling_in xs op
+unfolding operator_spelt spelling_in
 own s op [] u e = never (cc e)
-own s op (x ∷ xs) u e = let p = and-true (every (otherNumber n) xs) (unlike xs) u in go (same (ascii x.0) s) refl p.0 (own s op xs p.1) e
+own s op (x ∷ xs) u e = let p = and_true (every (other_number n) xs) (unlike xs) u in go (same (ascii x.0) s) refl p.0 (own s op xs p.1) e
   where
     n : ℕ
-    n = operatorNumber x.1
+    n = operator_number x.1
 
-    go : (t : Bool) → same (ascii x.0) s ≡ t → every (otherNumber n) xs ≡ true → (operatorSpelt s xs ≡ some op → s ≡ spellingIn xs op) → cond t (some x.1) (operatorSpelt s xs) ≡ some op → s ≡ spellingIn (x ∷ xs) op
-    go true d k later q = let z : x.1 ≡ op = cc q in rw (eq-eqb n (operatorNumber op) (ap operatorNumber z)) (sym (same_true (ascii x.0) s d))
-    go false d k later q = let y = spelt-by (otherNumber n) s op xs k q in rw (not-true (eqb n (operatorNumber op)) (rw y.is at y.passes)) (later q)
+    go : (t : Bool) → same (ascii x.0) s ≡ t → every (other_number n) xs ≡ true → (operator_spelt s xs ≡ some op → s ≡ spelling_in xs op) → cond t (some x.1) (operator_spelt s xs) ≡ some op → s ≡ spelling_in (x ∷ xs) op
+    go true d k later q = let z : x.1 ≡ op = cc q in rw (eq-eqb n (operator_number op) (ap operator_number z)) (sym (same_true (ascii x.0) s d))
+    go false d k later q = let y = spelt_by (other_number n) s op xs k q in rw (not-true (eqb n (operator_number op)) (rw y.is at y.passes)) (later q)
 
-all-unlike : (e : Edition) → unlike (spellings e) ≡ true
-unfolding every spellings bitwiseSpellings predicateSpellings arithmeticSpellings shiftAndCastSpellings operatorNumber bitwiseNumber comparisonNumber arithmeticNumber divisionNumber shiftNumber extensionNumber
-all-unlike e = refl
+all_unlike : (e : Edition) → unlike (spellings e) ≡ true
+unfolding every spellings bitwise_spellings predicate_spellings arithmetic_spellings shift_and_cast_spellings operator_number bitwise_number comparison_number arithmetic_number division_number shift_number extension_number
+all_unlike e = refl
 
 -- the spelling of an operator spells it
-again : (e : Edition) (op : Operator) → operatorNamed e (spellingOf e op) ≡ some op
-unfolding spellingOf spellingIn operatorSpelt same spellings bitwiseSpellings predicateSpellings arithmeticSpellings shiftAndCastSpellings operatorNumber bitwiseNumber comparisonNumber arithmeticNumber divisionNumber shiftNumber extensionNumber
+again : (e : Edition) (op : Operator) → operator_named e (spelling_of e op) ≡ some op
+unfolding spelling_of spelling_in operator_spelt same spellings bitwise_spellings predicate_spellings arithmetic_spellings shift_and_cast_spellings operator_number bitwise_number comparison_number arithmetic_number division_number shift_number extension_number
 again e (Combine And) = refl
 again e (Combine Or) = refl
 again e (Combine Xor) = refl
@@ -106,21 +106,21 @@ again e (Extend Zext) = refl
 again e Conc = refl
 again e Extr = refl
 
-pub spells-exactly : SpellsExactly
-unfolding spellingOf
-spells-exactly e op s = (own s op (spellings e) (all-unlike e), λ q. ap (operatorNamed e) q ∙ again e op)
+pub spells_exactly : SpellsExactly
+unfolding spelling_of
+spells_exactly e op s = (own s op (spellings e) (all_unlike e), λ q. ap (operator_named e) q ∙ again e op)
 
 -- the bytes of a spelling are seen, and there is one at least
-abbrev isWord : List ℕ → Bool
-isWord s = every isSeen s && leb 1 (length s)
+abbrev is_word : List ℕ → Bool
+is_word s = every is_seen s && leb 1 (length s)
 
-all_words : (e : Edition) → every (λ x. isWord (ascii x.0)) (spellings e) ≡ true
-unfolding every isSeen spellings bitwiseSpellings predicateSpellings arithmeticSpellings shiftAndCastSpellings
+all_words : (e : Edition) → every (λ x. is_word (ascii x.0)) (spellings e) ≡ true
+unfolding every is_seen spellings bitwise_spellings predicate_spellings arithmetic_spellings shift_and_cast_spellings
 all_words e = refl
 
-pub spelling-seen : (e : Edition) (op : Operator) → (every isSeen (spellingOf e op) ≡ true) × (1 ≤ length (spellingOf e op))
-spelling-seen e op =
-    let s = spellingOf e op in
-    let y = spelt-by (λ x. isWord (ascii x.0)) s op (spellings e) (all_words e) (again e op) in
-    let p = and-true (every isSeen s) (leb 1 (length s)) (rw y.spells at y.passes) in
+pub spelling_seen : (e : Edition) (op : Operator) → (every is_seen (spelling_of e op) ≡ true) × (1 ≤ length (spelling_of e op))
+spelling_seen e op =
+    let s = spelling_of e op in
+    let y = spelt_by (λ x. is_word (ascii x.0)) s op (spellings e) (all_words e) (again e op) in
+    let p = and_true (every is_seen s) (leb 1 (length s)) (rw y.spells at y.passes) in
     (p.0, leb-true 1 (length s) p.1)

@@ -5,7 +5,7 @@ use Rattle.std.proofs.Math.Option.{Option, none, some}
 use Rattle.edition.specs.declared.Edition.{Edition}
 use Rattle.arithmetic.specs.declared.Operator.{Operator}
 use Rattle.text.specs.Bytes.{same}
-use Rattle.spelling.specs.Operators.{spellingOf}
+use Rattle.spelling.specs.Operators.{spelling_of}
 use Rattle.spelling.specs.declared.Symbol.{Symbol}
 use Rattle.spelling.specs.declared.Spelt.{Spelt}
 use Rattle.spelling.specs.declared.Spelt.TheVariants.{Is, Nothing}
@@ -16,13 +16,13 @@ spelling (Is op) = some op
 spelling Nothing = none
 
 -- the first of two that is there
-abbrev pub orSpelt : Spelt → Spelt → Spelt
-orSpelt (Is op) b = Is op
-orSpelt Nothing b = b
+abbrev pub or_spelt : Spelt → Spelt → Spelt
+or_spelt (Is op) b = Is op
+or_spelt Nothing b = b
 
 -- the operator, if a text is its spelling
-abbrev pub ifSpelt : Edition → List ℕ → Operator → Spelt
-ifSpelt e s op = cond (same (spellingOf e op) s) (Is op) Nothing
+abbrev pub if_spelt : Edition → List ℕ → Operator → Spelt
+if_spelt e s op = cond (same (spelling_of e op) s) (Is op) Nothing
 
 -- a spelling as the table gives it: filled up with spaces to the longest one's four bytes
 abbrev pub padded : List ℕ → Symbol

@@ -3,8 +3,8 @@ ghost use Rattle.std.specs.Prelude.{◌≡◌, ◌≤◌, length, drop};
 ghost use Rattle.std.proofs.Math.Option.{or_else};
 ghost use Rattle.edition.specs.declared.Edition.{Edition};
 ghost use Rattle.text.specs.Bytes.{same};
-ghost use Rattle.spelling.specs.Operators.{bitwiseSpellings, predicateSpellings, arithmeticSpellings, shiftAndCastSpellings, operatorSpelt, operatorNamed, spellingOf, isReserved};
-ghost use Rattle.spelling.specs.Internal.{spelling, orSpelt, ifSpelt};
+ghost use Rattle.spelling.specs.Operators.{bitwise_spellings, predicate_spellings, arithmetic_spellings, shift_and_cast_spellings, operator_spelt, operator_named, spelling_of, is_reserved};
+ghost use Rattle.spelling.specs.Internal.{spelling, or_spelt, if_spelt};
 
 use arithmetic::{Arithmetic, Bitwise, Comparison, Division, Extension, Operator, Shift};
 use symbols::symbol_of;
@@ -33,7 +33,7 @@ pub enum Spelt {
 // Whether the bytes from `at` to the end are an operator's spelling.
 fn spells(text: &[u8], at: usize, op: Operator) -> bool
     requires { at ≤ length text.now }
-    ensures { (e : Edition) → result ≡ same (spellingOf e op) (drop at text.now) }
+    ensures { (e : Edition) → result ≡ same (spelling_of e op) (drop at text.now) }
 {
     let symbol = symbol_of(op);
     let bytes = symbol.bytes;
@@ -44,7 +44,7 @@ fn spells(text: &[u8], at: usize, op: Operator) -> bool
 // What is found already, else the operator, if the bytes are its spelling.
 fn or_operator(found: Spelt, text: &[u8], at: usize, op: Operator) -> Spelt
     requires { at ≤ length text.now }
-    ensures { (e : Edition) → result ≡ orSpelt found (ifSpelt e (drop at text.now) op) }
+    ensures { (e : Edition) → result ≡ or_spelt found (if_spelt e (drop at text.now) op) }
 {
     match found {
         Spelt::Is(before) => Spelt::Is(before),
@@ -59,7 +59,7 @@ fn or_operator(found: Spelt, text: &[u8], at: usize, op: Operator) -> Spelt
 // What is found already, else the first operator of a list whose spelling the bytes are: one function for each list.
 fn bitwise(found: Spelt, text: &[u8], at: usize) -> Spelt
     requires { at ≤ length text.now }
-    ensures { spelling result ≡ or_else (spelling found) (operatorSpelt (drop at text.now) bitwiseSpellings) }
+    ensures { spelling result ≡ or_else (spelling found) (operator_spelt (drop at text.now) bitwise_spellings) }
 {
     let found = or_operator(found, text, at, Operator::Combine(Bitwise::And));
     let found = or_operator(found, text, at, Operator::Combine(Bitwise::Or));
@@ -69,7 +69,7 @@ fn bitwise(found: Spelt, text: &[u8], at: usize) -> Spelt
 
 fn predicates(found: Spelt, text: &[u8], at: usize) -> Spelt
     requires { at ≤ length text.now }
-    ensures { spelling result ≡ or_else (spelling found) (operatorSpelt (drop at text.now) predicateSpellings) }
+    ensures { spelling result ≡ or_else (spelling found) (operator_spelt (drop at text.now) predicate_spellings) }
 {
     let found = or_operator(found, text, at, Operator::Implies);
     let found = or_operator(found, text, at, Operator::Compare(Comparison::Equal));
@@ -86,7 +86,7 @@ fn predicates(found: Spelt, text: &[u8], at: usize) -> Spelt
 
 fn arithmetic(found: Spelt, text: &[u8], at: usize) -> Spelt
     requires { at ≤ length text.now }
-    ensures { spelling result ≡ or_else (spelling found) (operatorSpelt (drop at text.now) arithmeticSpellings) }
+    ensures { spelling result ≡ or_else (spelling found) (operator_spelt (drop at text.now) arithmetic_spellings) }
 {
     let found = or_operator(found, text, at, Operator::Ite);
     let found = or_operator(found, text, at, Operator::Compute(Arithmetic::Add));
@@ -100,7 +100,7 @@ fn arithmetic(found: Spelt, text: &[u8], at: usize) -> Spelt
 
 fn shifts_and_casts(found: Spelt, text: &[u8], at: usize) -> Spelt
     requires { at ≤ length text.now }
-    ensures { spelling result ≡ or_else (spelling found) (operatorSpelt (drop at text.now) shiftAndCastSpellings) }
+    ensures { spelling result ≡ or_else (spelling found) (operator_spelt (drop at text.now) shift_and_cast_spellings) }
 {
     let found = or_operator(found, text, at, Operator::Move(Shift::Shl));
     let found = or_operator(found, text, at, Operator::Move(Shift::Ashr));
@@ -115,7 +115,7 @@ fn shifts_and_casts(found: Spelt, text: &[u8], at: usize) -> Spelt
 // The operator that the bytes from `at` to the end spell.
 pub fn operator_at(text: &[u8], at: usize) -> Spelt
     requires { at ≤ length text.now }
-    ensures { (e : Edition) → spelling result ≡ operatorNamed e (drop at text.now) }
+    ensures { (e : Edition) → spelling result ≡ operator_named e (drop at text.now) }
 {
     let found = bitwise(Spelt::Nothing, text, at);
     let found = predicates(found, text, at);
@@ -125,7 +125,7 @@ pub fn operator_at(text: &[u8], at: usize) -> Spelt
 
 pub fn is_reserved(text: &[u8], at: usize) -> bool
     requires { at ≤ length text.now }
-    ensures { (e : Edition) → result ≡ isReserved e (drop at text.now) }
+    ensures { (e : Edition) → result ≡ is_reserved e (drop at text.now) }
 {
     match operator_at(text, at) {
         Spelt::Is(_) => true,

@@ -2,7 +2,7 @@
 ghost use Rattle.std.specs.Prelude.{◌≡◌};
 ghost use Rattle.edition.specs.declared.Edition.{Edition};
 ghost use Rattle.arithmetic.specs.declared.Operator.TheVariants.{Combine, Compare, Compute, Divide, Move, Extend};
-ghost use Rattle.spelling.specs.Operators.{spellingOf};
+ghost use Rattle.spelling.specs.Operators.{spelling_of};
 ghost use Rattle.spelling.specs.Internal.{padded};
 
 use super::{LONGEST, Symbol};
@@ -15,7 +15,7 @@ fn made_of(bytes: [u8; LONGEST], len: usize) -> Symbol
 }
 
 fn bitwise_symbol(o: Bitwise) -> Symbol
-    ensures { (e : Edition) → result ≡ padded (spellingOf e (Combine o)) }
+    ensures { (e : Edition) → result ≡ padded (spelling_of e (Combine o)) }
 {
     match o {
         Bitwise::And => made_of(*b"&   ", 1),
@@ -25,7 +25,7 @@ fn bitwise_symbol(o: Bitwise) -> Symbol
 }
 
 fn comparison_symbol(o: Comparison) -> Symbol
-    ensures { (e : Edition) → result ≡ padded (spellingOf e (Compare o)) }
+    ensures { (e : Edition) → result ≡ padded (spelling_of e (Compare o)) }
 {
     match o {
         Comparison::Equal => made_of(*b"=   ", 1),
@@ -42,7 +42,7 @@ fn comparison_symbol(o: Comparison) -> Symbol
 }
 
 fn arithmetic_symbol(o: Arithmetic) -> Symbol
-    ensures { (e : Edition) → result ≡ padded (spellingOf e (Compute o)) }
+    ensures { (e : Edition) → result ≡ padded (spelling_of e (Compute o)) }
 {
     match o {
         Arithmetic::Add => made_of(*b"+   ", 1),
@@ -52,7 +52,7 @@ fn arithmetic_symbol(o: Arithmetic) -> Symbol
 }
 
 fn division_symbol(o: Division) -> Symbol
-    ensures { (e : Edition) → result ≡ padded (spellingOf e (Divide o)) }
+    ensures { (e : Edition) → result ≡ padded (spelling_of e (Divide o)) }
 {
     match o {
         Division::Udiv => made_of(*b"/u  ", 2),
@@ -63,7 +63,7 @@ fn division_symbol(o: Division) -> Symbol
 }
 
 fn shift_symbol(o: Shift) -> Symbol
-    ensures { (e : Edition) → result ≡ padded (spellingOf e (Move o)) }
+    ensures { (e : Edition) → result ≡ padded (spelling_of e (Move o)) }
 {
     match o {
         Shift::Shl => made_of(*b"<<  ", 2),
@@ -73,7 +73,7 @@ fn shift_symbol(o: Shift) -> Symbol
 }
 
 fn extension_symbol(o: Extension) -> Symbol
-    ensures { (e : Edition) → result ≡ padded (spellingOf e (Extend o)) }
+    ensures { (e : Edition) → result ≡ padded (spelling_of e (Extend o)) }
 {
     match o {
         Extension::Sext => made_of(*b"sext", 4),
@@ -83,7 +83,7 @@ fn extension_symbol(o: Extension) -> Symbol
 
 // The spelling of an operator.
 pub fn symbol_of(op: Operator) -> Symbol
-    ensures { (e : Edition) → result ≡ padded (spellingOf e op) }
+    ensures { (e : Edition) → result ≡ padded (spelling_of e op) }
 {
     match op {
         Operator::Combine(o) => bitwise_symbol(o),

@@ -1,14 +1,14 @@
 // The `c` and `p` lines, put into the table part by part.
 ghost use Rattle.std.specs.Prelude.{◌≡◌, true, List, ℕ, ◌+◌, ◌≤◌, ◌<◌, length, drop};
-ghost use Rattle.edition.specs.Edition.{maxVariables, maxLines};
-ghost use Rattle.text.specs.Lines.{tokensFrom};
+ghost use Rattle.edition.specs.Edition.{max_variables, max_lines};
+ghost use Rattle.text.specs.Lines.{tokens_from};
 ghost use Rattle.text.specs.Scan.{line_at};
 ghost use Rattle.constraint.specs.File.{Variable, File};
-ghost use Rattle.constraint.specs.Read.{noOperands, nextOperand, readOperation, readStatement};
+ghost use Rattle.constraint.specs.Read.{no_operands, next_operand, read_operation, read_statement};
 ghost use Rattle.store.specs.Names.{Searchable};
-ghost use Rattle.store.specs.Tables.{tableHeads, tableBodies, variablesIn, lineIn, LinesKept, HeadsFit};
-ghost use Rattle.operand.specs.Internal.{takenResult, TakenWithin, TakenFits};
-ghost use Rattle.statement.specs.Internal.{finished, lineResult, leftToRead, operandNext, InLine, partResult, PartInLine, BlankUpTo, first_slot, LineFits};
+ghost use Rattle.store.specs.Tables.{table_heads, table_bodies, variables_in, line_in, LinesKept, HeadsFit};
+ghost use Rattle.operand.specs.Internal.{taken_result, TakenWithin, TakenFits};
+ghost use Rattle.statement.specs.Internal.{finished, line_result, left_to_read, operand_next, InLine, part_result, PartInLine, BlankUpTo, first_slot, LineFits};
 
 use super::typing::well_typed;
 use super::{LineRead, PartRead, Reached};
@@ -36,8 +36,8 @@ fn take_operand(
     line: &[u8],
     i: usize,
 ) -> Taken
-    requires { (i ≤ length line.now) × (n ≤ maxVariables) × Searchable file.now variables.now n }
-    ensures { ((start next : ℕ) → start ≤ length line.now → takenResult line.now result ≡ nextOperand (variablesIn file.now variables.now n) (line_at line.now start next) (tokensFrom true i (drop i line.now))) × TakenWithin line.now result × TakenFits (variablesIn file.now variables.now n) result }
+    requires { (i ≤ length line.now) × (n ≤ max_variables) × Searchable file.now variables.now n }
+    ensures { ((start next : ℕ) → start ≤ length line.now → taken_result line.now result ≡ next_operand (variables_in file.now variables.now n) (line_at line.now start next) (tokens_from true i (drop i line.now))) × TakenWithin line.now result × TakenFits (variables_in file.now variables.now n) result }
 {
     let start = spaces(line, i);
     if start == line.len() {
@@ -52,8 +52,8 @@ fn take_operand(
 
 // The operator of the next token of the line from `i` on, put into line m of the table.
 fn place_operator(line: &[u8], i: usize, heads: &mut [u8; TABLE_HEADS], m: usize) -> PartRead
-    requires { (i ≤ length line.now) × (length heads.old ≡ tableHeads) × (m < maxLines) }
-    ensures { ((bodies : List ℕ) (f : File) (start next : ℕ) → start ≤ length line.now → (lineIn heads.old bodies m).operands ≡ noOperands → partResult line.now (λ last place ts. operandNext f (line_at line.now start next) 1 last place (lineIn heads.new bodies m) ts) result ≡ readOperation f (line_at line.now start next) (lineIn heads.old bodies m).output (tokensFrom true i (drop i line.now))) × ((bodies : List ℕ) → LinesKept heads.old bodies heads.new bodies m) × ((bodies : List ℕ) (xs : List Variable) → HeadsFit xs heads.old bodies m → HeadsFit xs heads.new bodies m) × (length heads.new ≡ tableHeads) × PartInLine line.now 1 result }
+    requires { (i ≤ length line.now) × (length heads.old ≡ table_heads) × (m < max_lines) }
+    ensures { ((bodies : List ℕ) (f : File) (start next : ℕ) → start ≤ length line.now → (line_in heads.old bodies m).operands ≡ no_operands → part_result line.now (λ last place ts. operand_next f (line_at line.now start next) 1 last place (line_in heads.new bodies m) ts) result ≡ read_operation f (line_at line.now start next) (line_in heads.old bodies m).output (tokens_from true i (drop i line.now))) × ((bodies : List ℕ) → LinesKept heads.old bodies heads.new bodies m) × ((bodies : List ℕ) (xs : List Variable) → HeadsFit xs heads.old bodies m → HeadsFit xs heads.new bodies m) × (length heads.new ≡ table_heads) × PartInLine line.now 1 result }
 {
     match next_token(line, i) {
         NextToken::NoMore => PartRead::NotRead(refusal(Refusal::TOKEN_COUNT, line.len())),
@@ -83,8 +83,8 @@ fn before_operand(
     heads: &mut [u8; TABLE_HEADS],
     m: usize,
 ) -> PartRead
-    requires { InLine line.now p × (slot ≤ p.last) × (length heads.old ≡ tableHeads) × (m < maxLines) }
-    ensures { ((bodies : List ℕ) (f : File) (start next : ℕ) → start ≤ length line.now → BlankUpTo slot (lineIn heads.old bodies m) → partResult line.now (λ last place ts. operandNext f (line_at line.now start next) slot last place (lineIn heads.new bodies m) ts) result ≡ leftToRead f (line_at line.now start next) slot p.last p.operator (lineIn heads.old bodies m) (tokensFrom true p.at (drop p.at line.now))) × ((bodies : List ℕ) → LinesKept heads.old bodies heads.new bodies m) × ((bodies : List ℕ) (xs : List Variable) → HeadsFit xs heads.old bodies m → HeadsFit xs heads.new bodies m) × (slot ≡ 0 → heads.new ≡ heads.old) × (length heads.new ≡ tableHeads) × PartInLine line.now slot result }
+    requires { InLine line.now p × (slot ≤ p.last) × (length heads.old ≡ table_heads) × (m < max_lines) }
+    ensures { ((bodies : List ℕ) (f : File) (start next : ℕ) → start ≤ length line.now → BlankUpTo slot (line_in heads.old bodies m) → part_result line.now (λ last place ts. operand_next f (line_at line.now start next) slot last place (line_in heads.new bodies m) ts) result ≡ left_to_read f (line_at line.now start next) slot p.last p.operator (line_in heads.old bodies m) (tokens_from true p.at (drop p.at line.now))) × ((bodies : List ℕ) → LinesKept heads.old bodies heads.new bodies m) × ((bodies : List ℕ) (xs : List Variable) → HeadsFit xs heads.old bodies m → HeadsFit xs heads.new bodies m) × (slot ≡ 0 → heads.new ≡ heads.old) × (length heads.new ≡ table_heads) × PartInLine line.now slot result }
 {
     if slot == FIRST {
         place_operator(line, p.at, heads, m)
@@ -105,8 +105,8 @@ fn place_part(
     bodies: &mut [u64; TABLE_BODIES],
     m: usize,
 ) -> PartRead
-    requires { (n ≤ maxVariables) × Searchable file.now variables.now n × InLine line.now p × (slot ≤ p.last) × (length heads.old ≡ tableHeads) × (length bodies.old ≡ tableBodies) × (m < maxLines) }
-    ensures { ((f : File) (start next : ℕ) → f.variables ≡ variablesIn file.now variables.now n → start ≤ length line.now → BlankUpTo slot (lineIn heads.old bodies.old m) → partResult line.now (λ last place ts. leftToRead f (line_at line.now start next) (slot + 1) last place (lineIn heads.new bodies.new m) ts) result ≡ leftToRead f (line_at line.now start next) slot p.last p.operator (lineIn heads.old bodies.old m) (tokensFrom true p.at (drop p.at line.now))) × LinesKept heads.old bodies.old heads.new bodies.new m × (HeadsFit (variablesIn file.now variables.now n) heads.old bodies.old m → HeadsFit (variablesIn file.now variables.now n) heads.new bodies.new m) × (BlankUpTo slot (lineIn heads.old bodies.old m) → BlankUpTo (slot + 1) (lineIn heads.new bodies.new m)) × (length heads.new ≡ tableHeads) × (length bodies.new ≡ tableBodies) × PartInLine line.now slot result }
+    requires { (n ≤ max_variables) × Searchable file.now variables.now n × InLine line.now p × (slot ≤ p.last) × (length heads.old ≡ table_heads) × (length bodies.old ≡ table_bodies) × (m < max_lines) }
+    ensures { ((f : File) (start next : ℕ) → f.variables ≡ variables_in file.now variables.now n → start ≤ length line.now → BlankUpTo slot (line_in heads.old bodies.old m) → part_result line.now (λ last place ts. left_to_read f (line_at line.now start next) (slot + 1) last place (line_in heads.new bodies.new m) ts) result ≡ left_to_read f (line_at line.now start next) slot p.last p.operator (line_in heads.old bodies.old m) (tokens_from true p.at (drop p.at line.now))) × LinesKept heads.old bodies.old heads.new bodies.new m × (HeadsFit (variables_in file.now variables.now n) heads.old bodies.old m → HeadsFit (variables_in file.now variables.now n) heads.new bodies.new m) × (BlankUpTo slot (line_in heads.old bodies.old m) → BlankUpTo (slot + 1) (line_in heads.new bodies.new m)) × (length heads.new ≡ table_heads) × (length bodies.new ≡ table_bodies) × PartInLine line.now slot result }
 {
     match before_operand(line, p, slot, heads, m) {
         PartRead::NotRead(r) => PartRead::NotRead(r),
@@ -134,8 +134,8 @@ fn finish<'a>(
     i: usize,
     at: usize,
 ) -> LineRead
-    requires { (i ≤ length line.now) × (length heads.now ≡ tableHeads) × (length bodies.now ≡ tableBodies) × (m < maxLines) }
-    ensures { (xs : List Variable) → HeadsFit xs heads.now bodies.now m → lineResult (lineIn heads.now bodies.now m) result ≡ finished xs (lineIn heads.now bodies.now m) at (tokensFrom true i (drop i line.now)) }
+    requires { (i ≤ length line.now) × (length heads.now ≡ table_heads) × (length bodies.now ≡ table_bodies) × (m < max_lines) }
+    ensures { (xs : List Variable) → HeadsFit xs heads.now bodies.now m → line_result (line_in heads.now bodies.now m) result ≡ finished xs (line_in heads.now bodies.now m) at (tokens_from true i (drop i line.now)) }
 {
     match next_token(line, i) {
         NextToken::OneMore(t) => LineRead::NoLine(refusal(Refusal::TOKEN_COUNT, t.start)),
@@ -169,8 +169,8 @@ pub fn statement_line(
     bodies: &mut [u64; TABLE_BODIES],
     m: usize,
 ) -> LineRead
-    requires { (at < length line.now) × (n ≤ maxVariables) × Searchable file.now variables.now n × (length heads.old ≡ tableHeads) × (length bodies.old ≡ tableBodies) }
-    ensures { ((f : File) (next : ℕ) → f.variables ≡ variablesIn file.now variables.now n → length f.lines ≡ m → lineResult (lineIn heads.new bodies.new m) result ≡ readStatement form f (line_at line.now at next)) × LinesKept heads.old bodies.old heads.new bodies.new m × LineFits (variablesIn file.now variables.now n) heads.new bodies.new m result × (length heads.new ≡ tableHeads) × (length bodies.new ≡ tableBodies) }
+    requires { (at < length line.now) × (n ≤ max_variables) × Searchable file.now variables.now n × (length heads.old ≡ table_heads) × (length bodies.old ≡ table_bodies) }
+    ensures { ((f : File) (next : ℕ) → f.variables ≡ variables_in file.now variables.now n → length f.lines ≡ m → line_result (line_in heads.new bodies.new m) result ≡ read_statement form f (line_at line.now at next)) × LinesKept heads.old bodies.old heads.new bodies.new m × LineFits (variables_in file.now variables.now n) heads.new bodies.new m result × (length heads.new ≡ table_heads) × (length bodies.new ≡ table_bodies) }
 {
     if Edition::LINES <= m {
         return LineRead::NoLine(refusal(Refusal::OVER_LIMIT, at));

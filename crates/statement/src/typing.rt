@@ -1,10 +1,10 @@
 // The type rule of a line in the table.
 ghost use Rattle.std.specs.Prelude.{◌≡◌, List, ℕ, ◌<◌, length};
-ghost use Rattle.edition.specs.Edition.{maxLines};
-ghost use Rattle.arithmetic.specs.Rules.{operandsTaken};
+ghost use Rattle.edition.specs.Edition.{max_lines};
+ghost use Rattle.arithmetic.specs.Rules.{operands_taken};
 ghost use Rattle.constraint.specs.File.{Variable};
-ghost use Rattle.constraint.specs.TypeRules.{ruleWord, resultWidth, constantRule, isPredicate, predicateRule, wellTyped};
-ghost use Rattle.store.specs.Tables.{tableHeads, tableBodies, operandOf, lineIn, HeadFits, HeadsFit};
+ghost use Rattle.constraint.specs.TypeRules.{rule_word, result_width, constant_rule, is_predicate, predicate_rule, well_typed};
+ghost use Rattle.store.specs.Tables.{table_heads, table_bodies, operand_of, line_in, HeadFits, HeadsFit};
 
 use arithmetic::rules::{I1, typed};
 use arithmetic::{Operator, Word};
@@ -15,7 +15,7 @@ use store::lines::{
 
 // An operand as the rules see it: no variable's value matters to them.
 fn rule_word(head: u8, body: u64) -> Word
-    ensures { (xs : List Variable) → HeadFits xs head body → result ≡ ruleWord xs (operandOf head body) }
+    ensures { (xs : List Variable) → HeadFits xs head body → result ≡ rule_word xs (operand_of head body) }
 {
     let width = head_width(head);
     if is_constant(head) {
@@ -26,14 +26,14 @@ fn rule_word(head: u8, body: u64) -> Word
 }
 
 fn result_width(head: u8) -> u64
-    ensures { (xs : List Variable) (body : ℕ) → HeadFits xs head body → result ≡ resultWidth xs (operandOf head body) }
+    ensures { (xs : List Variable) (body : ℕ) → HeadFits xs head body → result ≡ result_width xs (operand_of head body) }
 {
     if head == ABSENT { I1 } else { head_width(head) }
 }
 
 // The last two operands of `extr` are constants.
 fn constants_hold(op: Operator, b: u8, c: u8) -> bool
-    ensures { (x y : ℕ) → result ≡ constantRule op (operandOf b x) (operandOf c y) }
+    ensures { (x y : ℕ) → result ≡ constant_rule op (operand_of b x) (operand_of c y) }
 {
     match op {
         Operator::Extr => is_constant(b) & is_constant(c),
@@ -53,7 +53,7 @@ fn constants_hold(op: Operator, b: u8, c: u8) -> bool
 
 // Whether an operator may stand in a `p` line.
 fn is_predicate(op: Operator, a: Word, b: Word, c: Word) -> bool
-    ensures { result ≡ isPredicate op (operandsTaken op a b c) }
+    ensures { result ≡ is_predicate op (operands_taken op a b c) }
 {
     let x = a.width == I1;
     let y = b.width == I1;
@@ -75,7 +75,7 @@ fn is_predicate(op: Operator, a: Word, b: Word, c: Word) -> bool
 }
 
 fn predicate_holds(output: u8, op: Operator, a: Word, b: Word, c: Word) -> bool
-    ensures { (body : ℕ) → result ≡ predicateRule (operandOf output body) op (operandsTaken op a b c) }
+    ensures { (body : ℕ) → result ≡ predicate_rule (operand_of output body) op (operands_taken op a b c) }
 {
     if output == ABSENT {
         is_predicate(op, a, b, c)
@@ -90,8 +90,8 @@ pub(crate) fn well_typed<'a>(
     bodies: &'a [u64; TABLE_BODIES],
     m: usize,
 ) -> bool
-    requires { (length heads.now ≡ tableHeads) × (length bodies.now ≡ tableBodies) × (m < maxLines) }
-    ensures { (xs : List Variable) → HeadsFit xs heads.now bodies.now m → result ≡ wellTyped xs (lineIn heads.now bodies.now m) }
+    requires { (length heads.now ≡ table_heads) × (length bodies.now ≡ table_bodies) × (m < max_lines) }
+    ensures { (xs : List Variable) → HeadsFit xs heads.now bodies.now m → result ≡ well_typed xs (line_in heads.now bodies.now m) }
 {
     let op = operator_of(heads, m);
     let output = head_of(heads, m, OUTPUT);

@@ -4,29 +4,29 @@ use mathlib.Core.Path.{◌≡◌, refl, ap, ◌∙◌}
 use mathlib.Core.Bool.{Bool, true, false}
 use mathlib.Core.List.{List}
 use lib.ListN.{length, get_or, take, drop}
-use Rattle.text.specs.Bytes.{frontOf}
+use Rattle.text.specs.Bytes.{front_of}
 use Rattle.text.specs.Scan.{past}
-use Rattle.text.proofs.RunLaws.{run_more, run-stop, run_end, run-part}
-use Rattle.store.specs.Hash.{hashNext, hashAfter, hashOf}
+use Rattle.text.proofs.RunLaws.{run_more, run_stop, run_end, run_part}
+use Rattle.store.specs.Hash.{hash_next, hash_after, hash_of}
 
 module _ (p : ℕ → Bool) (f : List ℕ) where
-  pub hash-begin : (at : ℕ) → hashAfter 0 (frontOf p (drop at f)) ≡ hashOf (frontOf p (drop at f))
-  unfolding hashOf
-  hash-begin at = refl
+  pub hash_begin : (at : ℕ) → hash_after 0 (front_of p (drop at f)) ≡ hash_of (front_of p (drop at f))
+  unfolding hash_of
+  hash_begin at = refl
 
   module _ (h i : ℕ) where
-    pub hash-more : i < length f → p (get_or f i 0) ≡ true → hashAfter (hashNext h (get_or f i 0)) (frontOf p (drop (i + 1) f)) ≡ hashAfter h (frontOf p (drop i f))
-    unfolding hashAfter
-    hash-more l e = rw (run_more p f i l e)
+    pub hash_more : i < length f → p (get_or f i 0) ≡ true → hash_after (hash_next h (get_or f i 0)) (front_of p (drop (i + 1) f)) ≡ hash_after h (front_of p (drop i f))
+    unfolding hash_after
+    hash_more l e = rw (run_more p f i l e)
 
-    pub hash-stop : i < length f → p (get_or f i 0) ≡ false → hashAfter h (frontOf p (drop i f)) ≡ h
-    unfolding hashAfter
-    hash-stop l e = rw (run-stop p f i l e)
+    pub hash_stop : i < length f → p (get_or f i 0) ≡ false → hash_after h (front_of p (drop i f)) ≡ h
+    unfolding hash_after
+    hash_stop l e = rw (run_stop p f i l e)
 
-    pub hash-end : length f ≤ i → hashAfter h (frontOf p (drop i f)) ≡ h
-    unfolding hashAfter
-    hash-end l = rw (run_end p f i l)
+    pub hash_end : length f ≤ i → hash_after h (front_of p (drop i f)) ≡ h
+    unfolding hash_after
+    hash_end l = rw (run_end p f i l)
 
   -- the run from `at` to m is the name
-  pub hash-name : (at m : ℕ) → at ≤ length f → m ≡ past p f at → hashOf (frontOf p (drop at f)) ≡ hashOf (drop at (take m f))
-  hash-name at m l e = ap hashOf (run-part p f at l ∙ rw e)
+  pub hash_name : (at m : ℕ) → at ≤ length f → m ≡ past p f at → hash_of (front_of p (drop at f)) ≡ hash_of (drop at (take m f))
+  hash_name at m l e = ap hash_of (run_part p f at l ∙ rw e)

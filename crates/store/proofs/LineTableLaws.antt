@@ -7,25 +7,25 @@ use native.Mathlib.Decide.{ℕ_discrete}
 use native.Mathlib.Omega.{arith}
 use lib.ListN.{length, length-set}
 use lib.Seq.{get_or-set_same, get_or-set_other}
-use Rattle.edition.specs.Edition.{maxLines}
+use Rattle.edition.specs.Edition.{max_lines}
 use Rattle.arithmetic.specs.declared.Operator.{Operator}
-use Rattle.arithmetic.specs.Numbering.{operatorNumber, operatorNumbered}
-use Rattle.arithmetic.proofs.NumberLaws.{give-back}
+use Rattle.arithmetic.specs.Numbering.{operator_number, operator_numbered}
+use Rattle.arithmetic.proofs.NumberLaws.{give_back}
 use Rattle.constraint.specs.declared.Operand.TheVariants.{Absent, Var, Const}
 use Rattle.constraint.specs.File.{Variable, width_at}
-use Rattle.constraint.specs.Read.{noOperands}
-use Rattle.constraint.specs.TypeRules.{ruleWord}
-use Rattle.store.specs.Tables.{lineHeads, lineBodies, tableHeads, tableBodies, variableMark, operandOf, headWidth, headAt, body_at, operandIn, operatorIn, lineIn, linesIn, withOperator, with_head, withBody, withoutOperands, withOperand, LinesKept, HeadFits, HeadsFit, AllHeadsFit}
-use Rattle.store.proofs.TableLaws.{length-tabulate, tabulate-cong, tabulate-suc}
+use Rattle.constraint.specs.Read.{no_operands}
+use Rattle.constraint.specs.TypeRules.{rule_word}
+use Rattle.store.specs.Tables.{line_heads, line_bodies, table_heads, table_bodies, variable_mark, operand_of, head_width, head_at, body_at, operand_in, operator_in, line_in, lines_in, with_operator, with_head, with_body, without_operands, with_operand, LinesKept, HeadFits, HeadsFit, AllHeadsFit}
+use Rattle.store.proofs.TableLaws.{length-tabulate, tabulate_cong, tabulate_suc}
 
 -- ---- all lines
-pub lines-length : (heads bodies : List ℕ) (n : ℕ) → length (linesIn heads bodies n) ≡ n
-unfolding linesIn
-lines-length heads bodies n = length-tabulate (lineIn heads bodies) n
+pub lines_length : (heads bodies : List ℕ) (n : ℕ) → length (lines_in heads bodies n) ≡ n
+unfolding lines_in
+lines_length heads bodies n = length-tabulate (line_in heads bodies) n
 
-pub lines_more : (heads bodies : List ℕ) (n : ℕ) → linesIn heads bodies (n + 1) ≡ linesIn heads bodies n ++ (lineIn heads bodies n ∷ [])
-unfolding linesIn
-lines_more heads bodies n = tabulate-suc (lineIn heads bodies) n
+pub lines_more : (heads bodies : List ℕ) (n : ℕ) → lines_in heads bodies (n + 1) ≡ lines_in heads bodies n ++ (line_in heads bodies n ∷ [])
+unfolding lines_in
+lines_more heads bodies n = tabulate_suc (line_in heads bodies) n
 
 -- ---- lines that are kept
 pub kept_same : (heads bodies : List ℕ) (n : ℕ) → LinesKept heads bodies heads bodies n
@@ -35,137 +35,137 @@ pub kept_on : {heads bodies heads₂ bodies₂ heads₃ bodies₃ : List ℕ} {n
 kept_on k l = record { heads = λ j h. l.heads j h ∙ k.heads j h; bodies = λ j h. l.bodies j h ∙ k.bodies j h }
 
 module _ {heads bodies heads₂ bodies₂ : List ℕ} {n : ℕ} (k : LinesKept heads bodies heads₂ bodies₂ n) where
-  pub kept-operator : (op : Operator) → LinesKept heads bodies (withOperator heads₂ n op) bodies₂ n
-  unfolding withOperator
-  kept-operator op = record {
-    heads = λ j h. get_or-set_other heads₂ (n * lineHeads) j (operatorNumber op) 0 (omega arith) ∙ k.heads j h;
+  pub kept_operator : (op : Operator) → LinesKept heads bodies (with_operator heads₂ n op) bodies₂ n
+  unfolding with_operator
+  kept_operator op = record {
+    heads = λ j h. get_or-set_other heads₂ (n * line_heads) j (operator_number op) 0 (omega arith) ∙ k.heads j h;
     bodies = k.bodies;
   }
 
-  pub kept-head : (slot head : ℕ) → LinesKept heads bodies (with_head heads₂ n slot head) bodies₂ n
+  pub kept_head : (slot head : ℕ) → LinesKept heads bodies (with_head heads₂ n slot head) bodies₂ n
   unfolding with_head
-  kept-head slot head = record {
-    heads = λ j h. get_or-set_other heads₂ (n * lineHeads + 1 + slot) j head 0 (omega arith) ∙ k.heads j h;
+  kept_head slot head = record {
+    heads = λ j h. get_or-set_other heads₂ (n * line_heads + 1 + slot) j head 0 (omega arith) ∙ k.heads j h;
     bodies = k.bodies;
   }
 
-  pub kept-body : (slot body : ℕ) → LinesKept heads bodies heads₂ (withBody bodies₂ n slot body) n
-  unfolding withBody
-  kept-body slot body = record {
+  pub kept_body : (slot body : ℕ) → LinesKept heads bodies heads₂ (with_body bodies₂ n slot body) n
+  unfolding with_body
+  kept_body slot body = record {
     heads = k.heads;
-    bodies = λ j h. get_or-set_other bodies₂ (n * lineBodies + slot) j body 0 (omega arith) ∙ k.bodies j h;
+    bodies = λ j h. get_or-set_other bodies₂ (n * line_bodies + slot) j body 0 (omega arith) ∙ k.bodies j h;
   }
 
-  head-kept : (i slot : ℕ) → i < n → slot < lineBodies → headAt heads₂ i slot ≡ headAt heads i slot
-  unfolding headAt
-  head-kept i slot h l = k.heads (i * lineHeads + 1 + slot) (omega arith)
+  head_kept : (i slot : ℕ) → i < n → slot < line_bodies → head_at heads₂ i slot ≡ head_at heads i slot
+  unfolding head_at
+  head_kept i slot h l = k.heads (i * line_heads + 1 + slot) (omega arith)
 
-  body_kept : (i slot : ℕ) → i < n → slot < lineBodies → body_at bodies₂ i slot ≡ body_at bodies i slot
+  body_kept : (i slot : ℕ) → i < n → slot < line_bodies → body_at bodies₂ i slot ≡ body_at bodies i slot
   unfolding body_at
-  body_kept i slot h l = k.bodies (i * lineBodies + slot) (omega arith)
+  body_kept i slot h l = k.bodies (i * line_bodies + slot) (omega arith)
 
-  operand-kept : (i slot : ℕ) → i < n → slot < lineBodies → operandIn heads₂ bodies₂ i slot ≡ operandIn heads bodies i slot
-  unfolding operandIn
-  operand-kept i slot h l = rw (head-kept i slot h l, body_kept i slot h l)
+  operand_kept : (i slot : ℕ) → i < n → slot < line_bodies → operand_in heads₂ bodies₂ i slot ≡ operand_in heads bodies i slot
+  unfolding operand_in
+  operand_kept i slot h l = rw (head_kept i slot h l, body_kept i slot h l)
 
-  line_kept : (i : ℕ) → i < n → lineIn heads₂ bodies₂ i ≡ lineIn heads bodies i
-  unfolding lineIn operatorIn
+  line_kept : (i : ℕ) → i < n → line_in heads₂ bodies₂ i ≡ line_in heads bodies i
+  unfolding line_in operator_in
   line_kept i h =
-      rw (operand-kept i 0 h (omega arith), operand-kept i 1 h (omega arith), operand-kept i 2 h (omega arith), operand-kept i 3 h (omega arith), k.heads (i * lineHeads) (omega arith))
+      rw (operand_kept i 0 h (omega arith), operand_kept i 1 h (omega arith), operand_kept i 2 h (omega arith), operand_kept i 3 h (omega arith), k.heads (i * line_heads) (omega arith))
 
-  pub lines-kept : linesIn heads₂ bodies₂ n ≡ linesIn heads bodies n
-  unfolding linesIn
-  lines-kept = tabulate-cong (lineIn heads₂ bodies₂) (lineIn heads bodies) n line_kept
+  pub lines_kept : lines_in heads₂ bodies₂ n ≡ lines_in heads bodies n
+  unfolding lines_in
+  lines_kept = tabulate_cong (line_in heads₂ bodies₂) (line_in heads bodies) n line_kept
 
-  pub fit-kept : (xs : List Variable) → AllHeadsFit xs heads bodies n → AllHeadsFit xs heads₂ bodies₂ n
-  fit-kept xs f i h slot l = rw (operand-kept i slot h l, head-kept i slot h l) (f i h slot l)
+  pub fit_kept : (xs : List Variable) → AllHeadsFit xs heads bodies n → AllHeadsFit xs heads₂ bodies₂ n
+  fit_kept xs f i h slot l = rw (operand_kept i slot h l, head_kept i slot h l) (f i h slot l)
 
 -- ---- what is put into line n
-module _ (heads : List ℕ) (n : ℕ) (sized : length heads ≡ tableHeads) (room : n < maxLines) where
-  pub operator-put : (op : Operator) → operatorIn (withOperator heads n op) n ≡ op
-  unfolding operatorIn withOperator
-  operator-put op = ap operatorNumbered (get_or-set_same heads (n * lineHeads) (operatorNumber op) 0 (omega arith)) ∙ give-back op
+module _ (heads : List ℕ) (n : ℕ) (sized : length heads ≡ table_heads) (room : n < max_lines) where
+  pub operator_put : (op : Operator) → operator_in (with_operator heads n op) n ≡ op
+  unfolding operator_in with_operator
+  operator_put op = ap operator_numbered (get_or-set_same heads (n * line_heads) (operator_number op) 0 (omega arith)) ∙ give_back op
 
-  head-put : (slot head : ℕ) → slot < lineBodies → headAt (with_head heads n slot head) n slot ≡ head
-  unfolding headAt with_head
-  head-put slot head h = get_or-set_same heads (n * lineHeads + 1 + slot) head 0 (omega arith)
+  head_put : (slot head : ℕ) → slot < line_bodies → head_at (with_head heads n slot head) n slot ≡ head
+  unfolding head_at with_head
+  head_put slot head h = get_or-set_same heads (n * line_heads + 1 + slot) head 0 (omega arith)
 
 module _ (heads : List ℕ) (n slot : ℕ) where
-  head-behind : (op : Operator) → headAt (withOperator heads n op) n slot ≡ headAt heads n slot
-  unfolding headAt withOperator
-  head-behind op = get_or-set_other heads (n * lineHeads) (n * lineHeads + 1 + slot) (operatorNumber op) 0 (omega arith)
+  head_behind : (op : Operator) → head_at (with_operator heads n op) n slot ≡ head_at heads n slot
+  unfolding head_at with_operator
+  head_behind op = get_or-set_other heads (n * line_heads) (n * line_heads + 1 + slot) (operator_number op) 0 (omega arith)
 
-  operator-before : (head : ℕ) → operatorIn (with_head heads n slot head) n ≡ operatorIn heads n
-  unfolding operatorIn with_head
-  operator-before head = ap operatorNumbered (get_or-set_other heads (n * lineHeads + 1 + slot) (n * lineHeads) head 0 (omega arith))
+  operator_before : (head : ℕ) → operator_in (with_head heads n slot head) n ≡ operator_in heads n
+  unfolding operator_in with_head
+  operator_before head = ap operator_numbered (get_or-set_other heads (n * line_heads + 1 + slot) (n * line_heads) head 0 (omega arith))
 
-  head-beside : (other head : ℕ) → ¬ (slot ≡ other) → headAt (with_head heads n other head) n slot ≡ headAt heads n slot
-  unfolding headAt with_head
-  head-beside other head d = get_or-set_other heads (n * lineHeads + 1 + other) (n * lineHeads + 1 + slot) head 0 (omega arith)
+  head_beside : (other head : ℕ) → ¬ (slot ≡ other) → head_at (with_head heads n other head) n slot ≡ head_at heads n slot
+  unfolding head_at with_head
+  head_beside other head d = get_or-set_other heads (n * line_heads + 1 + other) (n * line_heads + 1 + slot) head 0 (omega arith)
 
 module _ (bodies : List ℕ) (n slot body : ℕ) where
-  body-put : length bodies ≡ tableBodies → n < maxLines → slot < lineBodies → body_at (withBody bodies n slot body) n slot ≡ body
-  unfolding body_at withBody
-  body-put sized room h = get_or-set_same bodies (n * lineBodies + slot) body 0 (omega arith)
+  body_put : length bodies ≡ table_bodies → n < max_lines → slot < line_bodies → body_at (with_body bodies n slot body) n slot ≡ body
+  unfolding body_at with_body
+  body_put sized room h = get_or-set_same bodies (n * line_bodies + slot) body 0 (omega arith)
 
-  body-beside : (other : ℕ) → ¬ (other ≡ slot) → body_at (withBody bodies n slot body) n other ≡ body_at bodies n other
-  unfolding body_at withBody
-  body-beside other d = get_or-set_other bodies (n * lineBodies + slot) (n * lineBodies + other) body 0 (omega arith)
+  body_beside : (other : ℕ) → ¬ (other ≡ slot) → body_at (with_body bodies n slot body) n other ≡ body_at bodies n other
+  unfolding body_at with_body
+  body_beside other d = get_or-set_other bodies (n * line_bodies + slot) (n * line_bodies + other) body 0 (omega arith)
 
 -- ---- line n, with an operator and with an operand
-operand-behind : (heads bodies : List ℕ) (n slot : ℕ) (op : Operator) → operandIn (withOperator heads n op) bodies n slot ≡ operandIn heads bodies n slot
-unfolding operandIn
-operand-behind heads bodies n slot op = rw (head-behind heads n slot op)
+operand_behind : (heads bodies : List ℕ) (n slot : ℕ) (op : Operator) → operand_in (with_operator heads n op) bodies n slot ≡ operand_in heads bodies n slot
+unfolding operand_in
+operand_behind heads bodies n slot op = rw (head_behind heads n slot op)
 
-pub fit-operator : (xs : List Variable) (heads bodies : List ℕ) (n : ℕ) (op : Operator) → HeadsFit xs heads bodies n → HeadsFit xs (withOperator heads n op) bodies n
-fit-operator xs heads bodies n op f slot h = rw (operand-behind heads bodies n slot op, head-behind heads n slot op) (f slot h)
+pub fit_operator : (xs : List Variable) (heads bodies : List ℕ) (n : ℕ) (op : Operator) → HeadsFit xs heads bodies n → HeadsFit xs (with_operator heads n op) bodies n
+fit_operator xs heads bodies n op f slot h = rw (operand_behind heads bodies n slot op, head_behind heads n slot op) (f slot h)
 
-pub line-operator : (heads bodies : List ℕ) (n : ℕ) (op : Operator) → length heads ≡ tableHeads → n < maxLines → lineIn (withOperator heads n op) bodies n ≡ record { output = (lineIn heads bodies n).output; operator = op; operands = (lineIn heads bodies n).operands }
-unfolding lineIn
-line-operator heads bodies n op sized room =
-    rw (operator-put heads n sized room op, operand-behind heads bodies n 0 op, operand-behind heads bodies n 1 op, operand-behind heads bodies n 2 op, operand-behind heads bodies n 3 op)
+pub line_operator : (heads bodies : List ℕ) (n : ℕ) (op : Operator) → length heads ≡ table_heads → n < max_lines → line_in (with_operator heads n op) bodies n ≡ record { output = (line_in heads bodies n).output; operator = op; operands = (line_in heads bodies n).operands }
+unfolding line_in
+line_operator heads bodies n op sized room =
+    rw (operator_put heads n sized room op, operand_behind heads bodies n 0 op, operand_behind heads bodies n 1 op, operand_behind heads bodies n 2 op, operand_behind heads bodies n 3 op)
 
-module _ (heads bodies : List ℕ) (n slot head body : ℕ) (room : n < maxLines) (h : slot < lineBodies) (sized : length heads ≡ tableHeads) (sized₂ : length bodies ≡ tableBodies) where
-  operand-put : operandIn (with_head heads n slot head) (withBody bodies n slot body) n slot ≡ operandOf head body
-  unfolding operandIn
-  operand-put = rw (head-put heads n sized room slot head h, body-put bodies n slot body sized₂ room h)
+module _ (heads bodies : List ℕ) (n slot head body : ℕ) (room : n < max_lines) (h : slot < line_bodies) (sized : length heads ≡ table_heads) (sized₂ : length bodies ≡ table_bodies) where
+  operand_put : operand_in (with_head heads n slot head) (with_body bodies n slot body) n slot ≡ operand_of head body
+  unfolding operand_in
+  operand_put = rw (head_put heads n sized room slot head h, body_put bodies n slot body sized₂ room h)
 
-  operand-beside : (other : ℕ) → ¬ (other ≡ slot) → operandIn (with_head heads n slot head) (withBody bodies n slot body) n other ≡ operandIn heads bodies n other
-  unfolding operandIn
-  operand-beside other d = rw (head-beside heads n other slot head d, body-beside bodies n slot body other d)
+  operand_beside : (other : ℕ) → ¬ (other ≡ slot) → operand_in (with_head heads n slot head) (with_body bodies n slot body) n other ≡ operand_in heads bodies n other
+  unfolding operand_in
+  operand_beside other d = rw (head_beside heads n other slot head d, body_beside bodies n slot body other d)
 
-  pub fit-operand : (xs : List Variable) → HeadsFit xs heads bodies n → HeadFits xs head body → HeadsFit xs (with_head heads n slot head) (withBody bodies n slot body) n
-  fit-operand xs f e other l = elim (ℕ_discrete other slot) [
-    | yes q ↦ rw (q, operand-put, head-put heads n sized room slot head h) e
-    | no d ↦ rw (operand-beside other d, head-beside heads n other slot head d) (f other l)
+  pub fit_operand : (xs : List Variable) → HeadsFit xs heads bodies n → HeadFits xs head body → HeadsFit xs (with_head heads n slot head) (with_body bodies n slot body) n
+  fit_operand xs f e other l = elim (ℕ_discrete other slot) [
+    | yes q ↦ rw (q, operand_put, head_put heads n sized room slot head h) e
+    | no d ↦ rw (operand_beside other d, head_beside heads n other slot head d) (f other l)
   ]
 
-pub line-operand : (heads bodies : List ℕ) (n slot head body : ℕ) → n < maxLines → slot < lineBodies → length heads ≡ tableHeads → length bodies ≡ tableBodies → lineIn (with_head heads n slot head) (withBody bodies n slot body) n ≡ withOperand (lineIn heads bodies n) slot (operandOf head body)
-unfolding lineIn withOperand
-line-operand heads bodies n zero head body room h s t =
-    rw (operator-before heads n 0 head, operand-put heads bodies n 0 head body room h s t, operand-beside heads bodies n 0 head body room h s t 1 (omega arith), operand-beside heads bodies n 0 head body room h s t 2 (omega arith), operand-beside heads bodies n 0 head body room h s t 3 (omega arith))
-line-operand heads bodies n (suc zero) head body room h s t =
-    rw (operator-before heads n 1 head, operand-put heads bodies n 1 head body room h s t, operand-beside heads bodies n 1 head body room h s t 0 (omega arith), operand-beside heads bodies n 1 head body room h s t 2 (omega arith), operand-beside heads bodies n 1 head body room h s t 3 (omega arith))
-line-operand heads bodies n (suc (suc zero)) head body room h s t =
-    rw (operator-before heads n 2 head, operand-put heads bodies n 2 head body room h s t, operand-beside heads bodies n 2 head body room h s t 0 (omega arith), operand-beside heads bodies n 2 head body room h s t 1 (omega arith), operand-beside heads bodies n 2 head body room h s t 3 (omega arith))
-line-operand heads bodies n (suc (suc (suc zero))) head body room h s t =
-    rw (operator-before heads n 3 head, operand-put heads bodies n 3 head body room h s t, operand-beside heads bodies n 3 head body room h s t 0 (omega arith), operand-beside heads bodies n 3 head body room h s t 1 (omega arith), operand-beside heads bodies n 3 head body room h s t 2 (omega arith))
-line-operand heads bodies n (suc (suc (suc (suc k)))) head body room h s t = let z : ⊥ = omega arith in absurd z
+pub line_operand : (heads bodies : List ℕ) (n slot head body : ℕ) → n < max_lines → slot < line_bodies → length heads ≡ table_heads → length bodies ≡ table_bodies → line_in (with_head heads n slot head) (with_body bodies n slot body) n ≡ with_operand (line_in heads bodies n) slot (operand_of head body)
+unfolding line_in with_operand
+line_operand heads bodies n zero head body room h s t =
+    rw (operator_before heads n 0 head, operand_put heads bodies n 0 head body room h s t, operand_beside heads bodies n 0 head body room h s t 1 (omega arith), operand_beside heads bodies n 0 head body room h s t 2 (omega arith), operand_beside heads bodies n 0 head body room h s t 3 (omega arith))
+line_operand heads bodies n (suc zero) head body room h s t =
+    rw (operator_before heads n 1 head, operand_put heads bodies n 1 head body room h s t, operand_beside heads bodies n 1 head body room h s t 0 (omega arith), operand_beside heads bodies n 1 head body room h s t 2 (omega arith), operand_beside heads bodies n 1 head body room h s t 3 (omega arith))
+line_operand heads bodies n (suc (suc zero)) head body room h s t =
+    rw (operator_before heads n 2 head, operand_put heads bodies n 2 head body room h s t, operand_beside heads bodies n 2 head body room h s t 0 (omega arith), operand_beside heads bodies n 2 head body room h s t 1 (omega arith), operand_beside heads bodies n 2 head body room h s t 3 (omega arith))
+line_operand heads bodies n (suc (suc (suc zero))) head body room h s t =
+    rw (operator_before heads n 3 head, operand_put heads bodies n 3 head body room h s t, operand_beside heads bodies n 3 head body room h s t 0 (omega arith), operand_beside heads bodies n 3 head body room h s t 1 (omega arith), operand_beside heads bodies n 3 head body room h s t 2 (omega arith))
+line_operand heads bodies n (suc (suc (suc (suc k)))) head body room h s t = let z : ⊥ = omega arith in absurd z
 
 -- ---- line n, without output and operands
-module _ (heads : List ℕ) (n : ℕ) (sized : length heads ≡ tableHeads) (room : n < maxLines) where
+module _ (heads : List ℕ) (n : ℕ) (sized : length heads ≡ table_heads) (room : n < max_lines) where
   -- a head is 0 behind any clearing of slots
-  cleared-on : (slot other : ℕ) → slot < lineBodies → headAt heads n slot ≡ 0 → headAt (with_head heads n other 0) n slot ≡ 0
-  cleared-on slot other h e = elim (ℕ_discrete slot other) [
-    | yes q ↦ rw (← q) (head-put heads n sized room slot 0 h)
-    | no d ↦ head-beside heads n slot other 0 d ∙ e
+  cleared_on : (slot other : ℕ) → slot < line_bodies → head_at heads n slot ≡ 0 → head_at (with_head heads n other 0) n slot ≡ 0
+  cleared_on slot other h e = elim (ℕ_discrete slot other) [
+    | yes q ↦ rw (← q) (head_put heads n sized room slot 0 h)
+    | no d ↦ head_beside heads n slot other 0 d ∙ e
   ]
 
-length-head : (heads : List ℕ) (n slot head : ℕ) → length (with_head heads n slot head) ≡ length heads
+length_head : (heads : List ℕ) (n slot head : ℕ) → length (with_head heads n slot head) ≡ length heads
 unfolding with_head
-length-head heads n slot head = length-set heads (n * lineHeads + 1 + slot) head
+length_head heads n slot head = length-set heads (n * line_heads + 1 + slot) head
 
-module _ (heads bodies : List ℕ) (n : ℕ) (sized : length heads ≡ tableHeads) (room : n < maxLines) where
+module _ (heads bodies : List ℕ) (n : ℕ) (sized : length heads ≡ table_heads) (room : n < max_lines) where
   -- the heads with one, two and three slots cleared
   abbrev one : List ℕ
   one = with_head heads n 0 0
@@ -176,61 +176,61 @@ module _ (heads bodies : List ℕ) (n : ℕ) (sized : length heads ≡ tableHead
   abbrev three : List ℕ
   three = with_head two n 2 0
 
-  sized-one : length one ≡ tableHeads
-  sized-one = length-head heads n 0 0 ∙ sized
+  sized_one : length one ≡ table_heads
+  sized_one = length_head heads n 0 0 ∙ sized
 
-  sized-two : length two ≡ tableHeads
-  sized-two = length-head one n 1 0 ∙ sized-one
+  sized_two : length two ≡ table_heads
+  sized_two = length_head one n 1 0 ∙ sized_one
 
-  sized-three : length three ≡ tableHeads
-  sized-three = length-head two n 2 0 ∙ sized-two
+  sized_three : length three ≡ table_heads
+  sized_three = length_head two n 2 0 ∙ sized_two
 
-  head-cleared : (slot : ℕ) → slot < lineBodies → headAt (withoutOperands heads n) n slot ≡ 0
-  unfolding withoutOperands
-  head-cleared zero h =
-      cleared-on three n sized-three room 0 3 h (cleared-on two n sized-two room 0 2 h (cleared-on one n sized-one room 0 1 h (head-put heads n sized room 0 0 h)))
-  head-cleared (suc zero) h = cleared-on three n sized-three room 1 3 h (cleared-on two n sized-two room 1 2 h (head-put one n sized-one room 1 0 h))
-  head-cleared (suc (suc zero)) h = cleared-on three n sized-three room 2 3 h (head-put two n sized-two room 2 0 h)
-  head-cleared (suc (suc (suc zero))) h = head-put three n sized-three room 3 0 h
-  head-cleared (suc (suc (suc (suc k)))) h = let z : ⊥ = omega arith in absurd z
+  head_cleared : (slot : ℕ) → slot < line_bodies → head_at (without_operands heads n) n slot ≡ 0
+  unfolding without_operands
+  head_cleared zero h =
+      cleared_on three n sized_three room 0 3 h (cleared_on two n sized_two room 0 2 h (cleared_on one n sized_one room 0 1 h (head_put heads n sized room 0 0 h)))
+  head_cleared (suc zero) h = cleared_on three n sized_three room 1 3 h (cleared_on two n sized_two room 1 2 h (head_put one n sized_one room 1 0 h))
+  head_cleared (suc (suc zero)) h = cleared_on three n sized_three room 2 3 h (head_put two n sized_two room 2 0 h)
+  head_cleared (suc (suc (suc zero))) h = head_put three n sized_three room 3 0 h
+  head_cleared (suc (suc (suc (suc k)))) h = let z : ⊥ = omega arith in absurd z
 
-  operand-cleared : (slot : ℕ) → slot < lineBodies → operandIn (withoutOperands heads n) bodies n slot ≡ Absent
-  unfolding operandIn operandOf
-  operand-cleared slot h = rw (head-cleared slot h)
+  operand_cleared : (slot : ℕ) → slot < line_bodies → operand_in (without_operands heads n) bodies n slot ≡ Absent
+  unfolding operand_in operand_of
+  operand_cleared slot h = rw (head_cleared slot h)
 
-  pub fit-cleared : (xs : List Variable) → HeadsFit xs (withoutOperands heads n) bodies n
-  unfolding ruleWord headWidth
-  fit-cleared xs slot h = rw (operand-cleared slot h, head-cleared slot h)
+  pub fit_cleared : (xs : List Variable) → HeadsFit xs (without_operands heads n) bodies n
+  unfolding rule_word head_width
+  fit_cleared xs slot h = rw (operand_cleared slot h, head_cleared slot h)
 
-  pub line-cleared : lineIn (withoutOperands heads n) bodies n ≡ record { output = Absent; operator = operatorIn (withoutOperands heads n) n; operands = noOperands }
-  unfolding lineIn
-  line-cleared = rw (operand-cleared 0 (omega arith), operand-cleared 1 (omega arith), operand-cleared 2 (omega arith), operand-cleared 3 (omega arith))
+  pub line_cleared : line_in (without_operands heads n) bodies n ≡ record { output = Absent; operator = operator_in (without_operands heads n) n; operands = no_operands }
+  unfolding line_in
+  line_cleared = rw (operand_cleared 0 (omega arith), operand_cleared 1 (omega arith), operand_cleared 2 (omega arith), operand_cleared 3 (omega arith))
 
-pub kept-cleared : (heads bodies : List ℕ) (n : ℕ) → LinesKept heads bodies (withoutOperands heads n) bodies n
-unfolding withoutOperands
-kept-cleared heads bodies n = kept-head (kept-head (kept-head (kept-head (kept_same heads bodies n) 0 0) 1 0) 2 0) 3 0
+pub kept_cleared : (heads bodies : List ℕ) (n : ℕ) → LinesKept heads bodies (without_operands heads n) bodies n
+unfolding without_operands
+kept_cleared heads bodies n = kept_head (kept_head (kept_head (kept_head (kept_same heads bodies n) 0 0) 1 0) 2 0) 3 0
 
 -- ---- heads
-pub operand-absent : (head body : ℕ) → head ≡ 0 → operandOf head body ≡ Absent
-unfolding operandOf
-operand-absent head body e = rw e
+pub operand_absent : (head body : ℕ) → head ≡ 0 → operand_of head body ≡ Absent
+unfolding operand_of
+operand_absent head body e = rw e
 
-pub operand-variable : (head i : ℕ) → variableMark ≤ head → operandOf head i ≡ Var i
-unfolding operandOf
-operand-variable head i h = rw (ne_eqb head 0 (omega arith), le-ltb head variableMark h)
+pub operand_variable : (head i : ℕ) → variable_mark ≤ head → operand_of head i ≡ Var i
+unfolding operand_of
+operand_variable head i h = rw (ne_eqb head 0 (omega arith), le-ltb head variable_mark h)
 
-pub operand-constant : (k v : ℕ) → 1 ≤ k → k < variableMark → operandOf k v ≡ Const (record { width = k; value = v })
-unfolding operandOf
-operand-constant k v l h = rw (ne_eqb k 0 (omega arith), lt-ltb k variableMark h)
+pub operand_constant : (k v : ℕ) → 1 ≤ k → k < variable_mark → operand_of k v ≡ Const (record { width = k; value = v })
+unfolding operand_of
+operand_constant k v l h = rw (ne_eqb k 0 (omega arith), lt-ltb k variable_mark h)
 
 -- the width in a constant's head, and in a variable's
-pub constant-fits : (xs : List Variable) (head body : ℕ) → head < variableMark → HeadFits xs head body
-unfolding ruleWord headWidth operandOf
-constant-fits xs head body h = elim (ℕ_discrete head 0) [
+pub constant_fits : (xs : List Variable) (head body : ℕ) → head < variable_mark → HeadFits xs head body
+unfolding rule_word head_width operand_of
+constant_fits xs head body h = elim (ℕ_discrete head 0) [
   | yes e ↦ rw e
-  | no d ↦ rw (ne_eqb head 0 d, lt-ltb head variableMark h) (omega arith)
+  | no d ↦ rw (ne_eqb head 0 d, lt-ltb head variable_mark h) (omega arith)
 ]
 
-pub variable-fits : (xs : List Variable) (i w : ℕ) → w ≡ width_at xs i → w < variableMark → HeadFits xs (variableMark + headWidth w) i
-unfolding ruleWord headWidth
-variable-fits xs i w e h = rw (operand-variable (variableMark + w % variableMark) i (omega arith), ← e) (omega arith)
+pub variable_fits : (xs : List Variable) (i w : ℕ) → w ≡ width_at xs i → w < variable_mark → HeadFits xs (variable_mark + head_width w) i
+unfolding rule_word head_width
+variable_fits xs i w e h = rw (operand_variable (variable_mark + w % variable_mark) i (omega arith), ← e) (omega arith)

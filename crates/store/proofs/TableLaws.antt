@@ -35,14 +35,14 @@ module _ {A : Type 0} (f : ℕ → A) where
     | no d ↦ take-append-le k (tabulate f n) (f n ∷ []) (omega (arith, length-tabulate n)) ∙ take-tabulate k n (omega arith)
   ]
 
-pub tabulate-cong : {A : Type 0} (f g : ℕ → A) (n : ℕ) → ((i : ℕ) → i < n → f i ≡ g i) → tabulate f n ≡ tabulate g n
+pub tabulate_cong : {A : Type 0} (f g : ℕ → A) (n : ℕ) → ((i : ℕ) → i < n → f i ≡ g i) → tabulate f n ≡ tabulate g n
 unfolding tabulate
-tabulate-cong f g zero h = refl
-tabulate-cong f g (suc n) h = ap₂ (λ l x. l ++ (x ∷ [])) (tabulate-cong f g n (λ i p. h i (omega arith))) (h n (omega arith))
+tabulate_cong f g zero h = refl
+tabulate_cong f g (suc n) h = ap₂ (λ l x. l ++ (x ∷ [])) (tabulate_cong f g n (λ i p. h i (omega arith))) (h n (omega arith))
 
-pub tabulate-suc : {A : Type 0} (f : ℕ → A) (n : ℕ) → tabulate f (n + 1) ≡ tabulate f n ++ (f n ∷ [])
+pub tabulate_suc : {A : Type 0} (f : ℕ → A) (n : ℕ) → tabulate f (n + 1) ≡ tabulate f n ++ (f n ∷ [])
 unfolding tabulate
-tabulate-suc f n = rw (add-one n)
+tabulate_suc f n = rw (add-one n)
 
 -- one value more of a row
 pub row_more : (row table : List ℕ) (i : ℕ) → i < length row → i < length table → set (take i row ++ drop i table) i (get_or row i 0) ≡ take (i + 1) row ++ drop (i + 1) table

@@ -1,9 +1,9 @@
 // The hash of a name, made while the name is scanned.
 ghost use Rattle.std.specs.Prelude.{◌≡◌, true, ◌≤◌, ◌<◌, length, get_or, take, drop};
-ghost use Rattle.text.specs.Bytes.{isLetter};
+ghost use Rattle.text.specs.Bytes.{is_letter};
 ghost use Rattle.text.specs.declared.Class.TheVariants.{NameByte};
 ghost use Rattle.text.specs.Scan.{is_of, past};
-ghost use Rattle.store.specs.Hash.{hashNext, hashOf, buckets, bucketOf};
+ghost use Rattle.store.specs.Hash.{hash_next, hash_of, buckets, bucket_of};
 
 use super::Name;
 use edition::Edition;
@@ -21,15 +21,15 @@ const HASH_FOLD: usize = 1024;
 
 // The hash of a name with one byte more.
 fn hash_next(h: u32, b: u8) -> u32
-    ensures { result ≡ hashNext h b }
+    ensures { result ≡ hash_next h b }
 {
     ((h as u64 * HASH_FACTOR + b as u64) % HASH_BOUND) as u32
 }
 
 // The name whose first letter stands at `at`.
 pub fn name_at(text: &[u8], at: usize) -> Name
-    requires { (at < length text.now) × (isLetter (get_or text.now at 0) ≡ true) }
-    ensures { (result.stop ≡ past (is_of NameByte) text.now at) × (result.hash ≡ hashOf (drop at (take result.stop text.now))) }
+    requires { (at < length text.now) × (is_letter (get_or text.now at 0) ≡ true) }
+    ensures { (result.stop ≡ past (is_of NameByte) text.now at) × (result.hash ≡ hash_of (drop at (take result.stop text.now))) }
 {
     let mut hash = hash_next(0, text[at]);
     let mut i = at + 1;
@@ -47,7 +47,7 @@ pub fn name_at(text: &[u8], at: usize) -> Name
 
 // The bucket of a hash: its high digits folded into its low ones.
 pub(crate) fn bucket(hash: u32) -> usize
-    ensures { (result ≡ bucketOf hash) × (result < buckets) }
+    ensures { (result ≡ bucket_of hash) × (result < buckets) }
 {
     let h = hash as usize;
     (h + h / HASH_FOLD) % BUCKETS

@@ -2,11 +2,11 @@
 // A bucket's first entry is the variable added last whose name has that bucket, a variable's next entry the one before it there.
 // An entry is a variable's number plus 1, and 0 is none. Word i holds variable i and the first entry of bucket i.
 ghost use Rattle.std.specs.Prelude.{◌≡◌, ◌≤◌, ◌<◌, length, drop};
-ghost use Rattle.edition.specs.Edition.{maxVariables, maxNameBytes, maxWidth};
-ghost use Rattle.constraint.specs.File.{variableNamed};
-ghost use Rattle.store.specs.Hash.{hashOf, bucketOf};
-ghost use Rattle.store.specs.Names.{Searchable, withName};
-ghost use Rattle.store.specs.Tables.{lengthUnit, variablesIn, place};
+ghost use Rattle.edition.specs.Edition.{max_variables, max_name_bytes, max_width};
+ghost use Rattle.constraint.specs.File.{variable_named};
+ghost use Rattle.store.specs.Hash.{hash_of, bucket_of};
+ghost use Rattle.store.specs.Names.{Searchable, with_name};
+ghost use Rattle.store.specs.Tables.{length_unit, variables_in, place};
 
 use super::Found;
 use super::hashing::bucket;
@@ -25,8 +25,8 @@ pub fn add(
     width: u64,
     hash: u32,
 )
-    requires { (length variables.old ≡ maxVariables) × (n < maxVariables) × (start < lengthUnit) × (len ≤ maxNameBytes) × (width ≤ maxWidth) }
-    ensures { variables.new ≡ withName variables.old n start len width (bucketOf hash) }
+    requires { (length variables.old ≡ max_variables) × (n < max_variables) × (start < length_unit) × (len ≤ max_name_bytes) × (width ≤ max_width) }
+    ensures { variables.new ≡ with_name variables.old n start len width (bucket_of hash) }
 {
     let b = bucket(hash);
     let first = first_entry(variables[b]);
@@ -43,8 +43,8 @@ pub fn find(
     at: usize,
     hash: u32,
 ) -> Found
-    requires { (at ≤ length text.now) × (n ≤ maxVariables) × Searchable file.now variables.now n × (hash ≡ hashOf (drop at text.now)) }
-    ensures { place result ≡ variableNamed (drop at text.now) (variablesIn file.now variables.now n) }
+    requires { (at ≤ length text.now) × (n ≤ max_variables) × Searchable file.now variables.now n × (hash ≡ hash_of (drop at text.now)) }
+    ensures { place result ≡ variable_named (drop at text.now) (variables_in file.now variables.now n) }
 {
     let b = bucket(hash);
     let mut entry = first_entry(variables[b]);

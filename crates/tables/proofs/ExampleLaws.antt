@@ -2,56 +2,56 @@
 use Prim.Native.Nat.{ℕ}
 use mathlib.Core.Path.{◌≡◌, refl, sym, ◌∙◌}
 use mathlib.Core.List.{List, [], ◌∷◌}
-use Rattle.edition.specs.Edition.{editionNumbered, isWidth}
+use Rattle.edition.specs.Edition.{edition_numbered, is_width}
 use Rattle.refusal.specs.declared.Subject.TheVariants.{Constraint}
-use Rattle.refusal.specs.Numbers.{misplacedLine}
-use Rattle.refusal.specs.Lists.{every, firstFrom}
+use Rattle.refusal.specs.Numbers.{misplaced_line}
+use Rattle.refusal.specs.Lists.{every, first_from}
 use Rattle.refusal.specs.Result.{refusal}
 use Rattle.refusal.specs.SubjectWords.{ascii}
 use Rattle.refusal.proofs.ResultLaws.{never}
-use Rattle.arithmetic.specs.Rules.{arity, widthsHold, joins, typed}
+use Rattle.arithmetic.specs.Rules.{arity, widths_hold, joins, typed}
 use Rattle.arithmetic.specs.Meaning.{value_of, meaning}
-use Rattle.text.specs.Bytes.{same, frontOf, isSpace, isLineFeed, isCarriageReturn, isAllowed, isDigit, isLetter, isNameByte}
-use Rattle.text.specs.Lines.{terminatorLength, contentOf, lineLength, line_of, lines_from, tokenOf, tokensFrom, leads}
-use Rattle.text.specs.Spelling.{isName, isNumeral, decimalFrom, leadingZero, is_type, up_to, behind}
-use Rattle.text.specs.Reading.{readAnyLine, readLines, readText}
-use Rattle.constraint.specs.File.{variableNamed, width_at, operand_word, target}
-use Rattle.constraint.specs.TypeRules.{ruleWord, resultWidth, constantRule, predicateRule, wellTyped}
-use Rattle.spelling.specs.Operators.{bitwiseSpellings, predicateSpellings, arithmeticSpellings, shiftAndCastSpellings, spellings, operatorSpelt}
-use Rattle.constraint.specs.Read.{inHeader, readSingle, versionOf, readVersion, declare, declareAll, readDeclarations, readVariable, readOperand, nextOperand, readOperands, readOperation, nextOutput, readStatement, kind_of, readAs, readLine, readFile}
+use Rattle.text.specs.Bytes.{same, front_of, is_space, is_line_feed, is_carriage_return, is_allowed, is_digit, is_letter, is_name_byte}
+use Rattle.text.specs.Lines.{terminator_length, content_of, line_length, line_of, lines_from, token_of, tokens_from, leads}
+use Rattle.text.specs.Spelling.{is_name, is_numeral, decimal_from, leading_zero, is_type, up_to, behind}
+use Rattle.text.specs.Reading.{read_any_line, read_lines, read_text}
+use Rattle.constraint.specs.File.{variable_named, width_at, operand_word, target}
+use Rattle.constraint.specs.TypeRules.{rule_word, result_width, constant_rule, predicate_rule, well_typed}
+use Rattle.spelling.specs.Operators.{bitwise_spellings, predicate_spellings, arithmetic_spellings, shift_and_cast_spellings, spellings, operator_spelt}
+use Rattle.constraint.specs.Read.{in_header, read_single, version_of, read_version, declare, declare_all, read_declarations, read_variable, read_operand, next_operand, read_operands, read_operation, next_output, read_statement, kind_of, read_as, read_line, read_file}
 use Rattle.judge.specs.declared.Overall.TheVariants.{Satisfied}
-use Rattle.judge.specs.Judge.{result_of, judge, columnOf, firstVerdict, overallOf}
-use Rattle.judge.specs.InUse.{Tables, tables_of, tablesRoom}
+use Rattle.judge.specs.Judge.{result_of, judge, column_of, first_verdict, overall_of}
+use Rattle.judge.specs.InUse.{Tables, tables_of, tables_room}
 use Rattle.answer.specs.Read as answer
 use Rattle.tables.specs.declared.CheckReply.TheVariants.{Checked, Refused}
-use Rattle.tables.specs.Check.{checkingFor, checking, checkOutcome}
+use Rattle.tables.specs.Check.{checking_for, checking, check_outcome}
 use Rattle.tables.specs.Claims.{NotAllRefused, NotAllSatisfied}
 
 -- the map of two words, and an answer to it
 abbrev example : List ℕ
 example = ascii "v 1.0\nd hi:i16 lo:i16 r:i32\nc r conc hi lo\n"
 
-abbrev exampleAnswer : List ℕ
-exampleAnswer = ascii "s SATISFIABLE\nv hi=17056 lo=17060 r=1117799076\n"
+abbrev example_answer : List ℕ
+example_answer = ascii "s SATISFIABLE\nv hi=17056 lo=17060 r=1117799076\n"
 
 -- tables that are just long enough, and some with no entry
-abbrev exampleTables : Tables
-exampleTables = tables_of (0 ∷ 0 ∷ 0 ∷ []) (0 ∷ []) (0 ∷ [])
+abbrev example_tables : Tables
+example_tables = tables_of (0 ∷ 0 ∷ 0 ∷ []) (0 ∷ []) (0 ∷ [])
 
-abbrev noTables : Tables
-noTables = tables_of [] [] []
+abbrev no_tables : Tables
+no_tables = tables_of [] [] []
 
-example-satisfied : (checkOutcome example exampleAnswer exampleTables).reply ≡ Checked Satisfied
-unfolding editionNumbered isWidth every firstFrom arity widthsHold joins typed value_of meaning same frontOf isSpace isLineFeed isCarriageReturn isAllowed isDigit isLetter isNameByte terminatorLength contentOf lineLength line_of lines_from tokenOf tokensFrom leads isName isNumeral decimalFrom leadingZero is_type up_to behind readAnyLine readLines readText variableNamed width_at operand_word target ruleWord resultWidth constantRule predicateRule wellTyped bitwiseSpellings predicateSpellings arithmeticSpellings shiftAndCastSpellings spellings operatorSpelt inHeader readSingle versionOf readVersion declare declareAll readDeclarations readVariable readOperand nextOperand readOperands readOperation nextOutput readStatement kind_of readAs readLine readFile result_of judge columnOf tablesRoom firstVerdict overallOf answer.solutionOf answer.readWord answer.readSolution answer.setting_of answer.readSetting answer.readSettings answer.readValues answer.answerKind answer.readAnswerAs answer.readAnswerLine answer.allSet answer.readAnswer checkingFor checking
-example-satisfied = refl
+example_satisfied : (check_outcome example example_answer example_tables).reply ≡ Checked Satisfied
+unfolding edition_numbered is_width every first_from arity widths_hold joins typed value_of meaning same front_of is_space is_line_feed is_carriage_return is_allowed is_digit is_letter is_name_byte terminator_length content_of line_length line_of lines_from token_of tokens_from leads is_name is_numeral decimal_from leading_zero is_type up_to behind read_any_line read_lines read_text variable_named width_at operand_word target rule_word result_width constant_rule predicate_rule well_typed bitwise_spellings predicate_spellings arithmetic_spellings shift_and_cast_spellings spellings operator_spelt in_header read_single version_of read_version declare declare_all read_declarations read_variable read_operand next_operand read_operands read_operation next_output read_statement kind_of read_as read_line read_file result_of judge column_of tables_room first_verdict overall_of answer.solution_of answer.read_word answer.read_solution answer.setting_of answer.read_setting answer.read_settings answer.read_values answer.answer_kind answer.read_answer_as answer.read_answer_line answer.all_set answer.read_answer checking_for checking
+example_satisfied = refl
 
 -- empty files
-empty-refused : (checkOutcome [] [] noTables).reply ≡ Refused (refusal Constraint misplacedLine 0)
-unfolding readLines readText lines_from readFile checking
-empty-refused = refl
+empty_refused : (check_outcome [] [] no_tables).reply ≡ Refused (refusal Constraint misplaced_line 0)
+unfolding read_lines read_text lines_from read_file checking
+empty_refused = refl
 
-pub not-all-refused : NotAllRefused
-not-all-refused check meets all = let p = all example exampleAnswer exampleTables in never (cc (sym p.1 ∙ meets example exampleAnswer exampleTables ∙ example-satisfied))
+pub not_all_refused : NotAllRefused
+not_all_refused check meets all = let p = all example example_answer example_tables in never (cc (sym p.1 ∙ meets example example_answer example_tables ∙ example_satisfied))
 
-pub not-all-satisfied : NotAllSatisfied
-not-all-satisfied check meets all = never (cc (sym (all [] [] noTables) ∙ meets [] [] noTables ∙ empty-refused))
+pub not_all_satisfied : NotAllSatisfied
+not_all_satisfied check meets all = never (cc (sym (all [] [] no_tables) ∙ meets [] [] no_tables ∙ empty_refused))

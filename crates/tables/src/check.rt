@@ -1,8 +1,8 @@
 // The check, into lent tables.
 ghost use Rattle.std.specs.Prelude.{◌≡◌};
 ghost use Rattle.judge.specs.InUse.{tables_of};
-ghost use Rattle.tables.specs.Check.{checkOutcome};
-ghost use Rattle.tables.specs.Internal.{replyOf, CountsLines};
+ghost use Rattle.tables.specs.Check.{check_outcome};
+ghost use Rattle.tables.specs.Internal.{reply_of, CountsLines};
 
 use super::{CheckReply, Judgement};
 use answer::AnswerRead;
@@ -25,7 +25,7 @@ pub(crate) fn check_lines(
     verdicts: &mut [u8],
     results: &mut [u64],
 ) -> Judgement
-    ensures { (record { reply = replyOf result; tables = tables_of values.new verdicts.new results.new } ≡ checkOutcome constraint.now answer.now (tables_of values.old verdicts.old results.old)) × CountsLines constraint.now result }
+    ensures { (record { reply = reply_of result; tables = tables_of values.new verdicts.new results.new } ≡ check_outcome constraint.now answer.now (tables_of values.old verdicts.old results.old)) × CountsLines constraint.now result }
 {
     let mut variables = [0u64; Edition::VARIABLES];
     let mut heads = [0u8; TABLE_HEADS];
@@ -61,7 +61,7 @@ pub fn check(
     verdicts: &mut [u8],
     results: &mut [u64],
 ) -> CheckReply
-    ensures { record { reply = result; tables = tables_of values.new verdicts.new results.new } ≡ checkOutcome constraint.now answer.now (tables_of values.old verdicts.old results.old) }
+    ensures { record { reply = result; tables = tables_of values.new verdicts.new results.new } ≡ check_outcome constraint.now answer.now (tables_of values.old verdicts.old results.old) }
 {
     match check_lines(constraint, answer, values, verdicts, results) {
         Judgement::Done(o, _) => CheckReply::Checked(o),

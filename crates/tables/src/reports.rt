@@ -1,7 +1,7 @@
 // The report on an answer; its tables are its own.
 ghost use Rattle.std.specs.Prelude.{◌≡◌, eqb};
-ghost use Rattle.refusal.specs.Lists.{howMany};
-ghost use Rattle.tables.specs.Report.{tally_of, reportOutcome};
+ghost use Rattle.refusal.specs.Lists.{how_many};
+ghost use Rattle.tables.specs.Report.{tally_of, report_outcome};
 
 use super::check::check_lines;
 use super::{Judgement, Report, Tally};
@@ -10,7 +10,7 @@ use judge::Judged;
 
 // How many verdicts are v.
 fn count(verdicts: &[u8], v: u8) -> usize
-    ensures { result ≡ howMany (eqb v) verdicts.now }
+    ensures { result ≡ how_many (eqb v) verdicts.now }
 {
     let mut n = 0;
     let mut i = 0;
@@ -36,7 +36,7 @@ fn tally(verdicts: &[u8]) -> Tally
 
 // Reports on an answer to a constraint file, any bytes both.
 pub fn report(constraint: &[u8], answer: &[u8]) -> Report
-    ensures { result ≡ reportOutcome constraint.now answer.now }
+    ensures { result ≡ report_outcome constraint.now answer.now }
 {
     let mut values = [0u64; Edition::VARIABLES];
     let mut verdicts = [0u8; Edition::LINES];

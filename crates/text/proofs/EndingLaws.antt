@@ -8,112 +8,112 @@ use lib.ListN.{length, take}
 use borrow.Author.Tests.{not-true}
 use Rattle.refusal.specs.Lists.{every}
 use Rattle.refusal.specs.Result.{Result}
-use Rattle.refusal.proofs.BoolLaws.{and-true}
-use Rattle.refusal.proofs.ListLaws.{flatMap-same}
-use Rattle.text.specs.Bytes.{frontOf, isLineFeed, isCarriageReturn}
-use Rattle.text.specs.Lines.{TextLine, contentOf, lineLength, line_of, lines_from, textLines}
-use Rattle.text.specs.Endings.{NoReturn, withReturns, contents, feedLineOf, feedLinesFrom, FeedsEndLines, ReturnsKeepContents, ContentsDecide, ReturnsChangeNothing}
-use Rattle.text.proofs.ContentLaws.{ends-feed, ends_return, ends-other, content-on, content-none, length-ended, length-on, length-within}
+use Rattle.refusal.proofs.BoolLaws.{and_true}
+use Rattle.refusal.proofs.ListLaws.{flat_map_same}
+use Rattle.text.specs.Bytes.{front_of, is_line_feed, is_carriage_return}
+use Rattle.text.specs.Lines.{TextLine, content_of, line_length, line_of, lines_from, text_lines}
+use Rattle.text.specs.Endings.{NoReturn, with_returns, contents, feed_line_of, feed_lines_from, FeedsEndLines, ReturnsKeepContents, ContentsDecide, ReturnsChangeNothing}
+use Rattle.text.proofs.ContentLaws.{ends_feed, ends_return, ends_other, content_on, content_none, length_ended, length_on, length_within}
 
 -- a text without CR: its first byte, and the others
-first-other : (b : ℕ) (s : List ℕ) → NoReturn (b ∷ s) → (isCarriageReturn b ≡ false) × NoReturn s
+first_other : (b : ℕ) (s : List ℕ) → NoReturn (b ∷ s) → (is_carriage_return b ≡ false) × NoReturn s
 unfolding every
-first-other b s h = let q = and-true (not (isCarriageReturn b)) (every (λ c. not (isCarriageReturn c)) s) h in (not-true (isCarriageReturn b) q.0, q.1)
+first_other b s h = let q = and_true (not (is_carriage_return b)) (every (λ c. not (is_carriage_return c)) s) h in (not-true (is_carriage_return b) q.0, q.1)
 
 -- ---- without CR
-content-feed : (s : List ℕ) → NoReturn s → contentOf s ≡ frontOf (λ b. not (isLineFeed b)) s
-unfolding contentOf frontOf
-content-feed [] h = refl
-content-feed (b ∷ s) h = let q = first-other b s h in go (isLineFeed b) refl q.0 (content-feed s q.1)
+content_feed : (s : List ℕ) → NoReturn s → content_of s ≡ front_of (λ b. not (is_line_feed b)) s
+unfolding content_of front_of
+content_feed [] h = refl
+content_feed (b ∷ s) h = let q = first_other b s h in go (is_line_feed b) refl q.0 (content_feed s q.1)
   where
-    go : (t : Bool) → isLineFeed b ≡ t → isCarriageReturn b ≡ false → contentOf s ≡ frontOf (λ c. not (isLineFeed c)) s → contentOf (b ∷ s) ≡ frontOf (λ c. not (isLineFeed c)) (b ∷ s)
-    go true e r ih = rw (e, content-none (b ∷ s) (omega (arith, ends-feed (b ∷ s) e)))
-    go false e r ih = rw e (content-on b s (ends-other b s e r) ∙ ap (λ (l : List ℕ). b ∷ l) ih)
+    go : (t : Bool) → is_line_feed b ≡ t → is_carriage_return b ≡ false → content_of s ≡ front_of (λ c. not (is_line_feed c)) s → content_of (b ∷ s) ≡ front_of (λ c. not (is_line_feed c)) (b ∷ s)
+    go true e r ih = rw (e, content_none (b ∷ s) (omega (arith, ends_feed (b ∷ s) e)))
+    go false e r ih = rw e (content_on b s (ends_other b s e r) ∙ ap (λ (l : List ℕ). b ∷ l) ih)
 
-length-feed : (s : List ℕ) → NoReturn s → lineLength s ≡ length (take (suc (length (contentOf s))) s)
-length-feed [] h = omega (arith, length-within [])
-length-feed (b ∷ s) h = let q = first-other b s h in go (isLineFeed b) refl q.0 (length-feed s q.1)
+length_feed : (s : List ℕ) → NoReturn s → line_length s ≡ length (take (suc (length (content_of s))) s)
+length_feed [] h = omega (arith, length_within [])
+length_feed (b ∷ s) h = let q = first_other b s h in go (is_line_feed b) refl q.0 (length_feed s q.1)
   where
-    go : (t : Bool) → isLineFeed b ≡ t → isCarriageReturn b ≡ false → lineLength s ≡ length (take (suc (length (contentOf s))) s) → lineLength (b ∷ s) ≡ length (take (suc (length (contentOf (b ∷ s)))) (b ∷ s))
-    go true e r ih = rw (content-none (b ∷ s) (omega (arith, ends-feed (b ∷ s) e))) (length-ended 0 (b ∷ s) (ends-feed (b ∷ s) e))
-    go false e r ih = rw (content-on b s (ends-other b s e r)) (length-on b s (ends-other b s e r) ∙ ap suc ih)
+    go : (t : Bool) → is_line_feed b ≡ t → is_carriage_return b ≡ false → line_length s ≡ length (take (suc (length (content_of s))) s) → line_length (b ∷ s) ≡ length (take (suc (length (content_of (b ∷ s)))) (b ∷ s))
+    go true e r ih = rw (content_none (b ∷ s) (omega (arith, ends_feed (b ∷ s) e))) (length_ended 0 (b ∷ s) (ends_feed (b ∷ s) e))
+    go false e r ih = rw (content_on b s (ends_other b s e r)) (length_on b s (ends_other b s e r) ∙ ap suc ih)
 
-lines-feed : (begins : Bool) (at : ℕ) (s : List ℕ) → NoReturn s → lines_from begins at s ≡ feedLinesFrom begins at s
-unfolding lines_from feedLinesFrom line_of feedLineOf
-lines-feed begins at [] h = refl
-lines-feed begins at (b ∷ s) h = rw (lines-feed (isLineFeed b) (at + 1) s (first-other b s h).1, length-feed (b ∷ s) h, content-feed (b ∷ s) h)
+lines_feed : (begins : Bool) (at : ℕ) (s : List ℕ) → NoReturn s → lines_from begins at s ≡ feed_lines_from begins at s
+unfolding lines_from feed_lines_from line_of feed_line_of
+lines_feed begins at [] h = refl
+lines_feed begins at (b ∷ s) h = rw (lines_feed (is_line_feed b) (at + 1) s (first_other b s h).1, length_feed (b ∷ s) h, content_feed (b ∷ s) h)
 
-pub feeds-end-lines : FeedsEndLines
-feeds-end-lines = lines-feed true 0
+pub feeds_end_lines : FeedsEndLines
+feeds_end_lines = lines_feed true 0
 
 -- ---- with a CR put in front of every LF
 -- the contents of the lines that begin in the bytes s, which stand at `at`
-abbrev contentsFrom : Bool → ℕ → List ℕ → List (List ℕ)
-contentsFrom begins at s = map (λ l. l.bytes) (lines_from begins at s)
+abbrev contents_from : Bool → ℕ → List ℕ → List (List ℕ)
+contents_from begins at s = map (λ l. l.bytes) (lines_from begins at s)
 
-contents-none : (begins : Bool) (at : ℕ) → contentsFrom begins at [] ≡ []
+contents_none : (begins : Bool) (at : ℕ) → contents_from begins at [] ≡ []
 unfolding lines_from
-contents-none begins at = refl
+contents_none begins at = refl
 
-contents-cons : (begins : Bool) (at b : ℕ) (s : List ℕ) → contentsFrom begins at (b ∷ s) ≡ cond begins (contentOf (b ∷ s) ∷ contentsFrom (isLineFeed b) (at + 1) s) (contentsFrom (isLineFeed b) (at + 1) s)
+contents_cons : (begins : Bool) (at b : ℕ) (s : List ℕ) → contents_from begins at (b ∷ s) ≡ cond begins (content_of (b ∷ s) ∷ contents_from (is_line_feed b) (at + 1) s) (contents_from (is_line_feed b) (at + 1) s)
 unfolding lines_from line_of
-contents-cons true at b s = refl
-contents-cons false at b s = refl
+contents_cons true at b s = refl
+contents_cons false at b s = refl
 
 module _ (b : ℕ) (s : List ℕ) where
-  returns-feed : isLineFeed b ≡ true → withReturns (b ∷ s) ≡ 13 ∷ b ∷ withReturns s
-  unfolding withReturns
-  returns-feed e = rw e
+  returns_feed : is_line_feed b ≡ true → with_returns (b ∷ s) ≡ 13 ∷ b ∷ with_returns s
+  unfolding with_returns
+  returns_feed e = rw e
 
-  returns-other : isLineFeed b ≡ false → withReturns (b ∷ s) ≡ b ∷ withReturns s
-  unfolding withReturns
-  returns-other e = rw e
+  returns_other : is_line_feed b ≡ false → with_returns (b ∷ s) ≡ b ∷ with_returns s
+  unfolding with_returns
+  returns_other e = rw e
 
 -- CR, and the LF behind it, end a line, and a line begins behind them
-module _ (b : ℕ) (s : List ℕ) (e : isLineFeed b ≡ true) where
-  return-content : contentOf (13 ∷ b ∷ s) ≡ []
-  unfolding isLineFeed isCarriageReturn
-  return-content = content-none (13 ∷ b ∷ s) (omega (arith, ends_return (13 ∷ b ∷ s) refl e))
+module _ (b : ℕ) (s : List ℕ) (e : is_line_feed b ≡ true) where
+  return_content : content_of (13 ∷ b ∷ s) ≡ []
+  unfolding is_line_feed is_carriage_return
+  return_content = content_none (13 ∷ b ∷ s) (omega (arith, ends_return (13 ∷ b ∷ s) refl e))
 
-  return-lines : (at : ℕ) → contentsFrom (isLineFeed 13) at (b ∷ s) ≡ contentsFrom true (at + 1) s
-  unfolding isLineFeed
-  return-lines at = contents-cons false at b s ∙ rw e
+  return_lines : (at : ℕ) → contents_from (is_line_feed 13) at (b ∷ s) ≡ contents_from true (at + 1) s
+  unfolding is_line_feed
+  return_lines at = contents_cons false at b s ∙ rw e
 
-content-returns : (s : List ℕ) → NoReturn s → contentOf (withReturns s) ≡ contentOf s
-unfolding withReturns
-content-returns [] h = refl
-content-returns (b ∷ s) h = let q = first-other b s h in go (isLineFeed b) refl q.0 (content-returns s q.1)
+content_returns : (s : List ℕ) → NoReturn s → content_of (with_returns s) ≡ content_of s
+unfolding with_returns
+content_returns [] h = refl
+content_returns (b ∷ s) h = let q = first_other b s h in go (is_line_feed b) refl q.0 (content_returns s q.1)
   where
-    go : (t : Bool) → isLineFeed b ≡ t → isCarriageReturn b ≡ false → contentOf (withReturns s) ≡ contentOf s → contentOf (withReturns (b ∷ s)) ≡ contentOf (b ∷ s)
-    go true e r ih = rw (e, return-content b (withReturns s) e, content-none (b ∷ s) (omega (arith, ends-feed (b ∷ s) e)))
-    go false e r ih = rw e (content-on b (withReturns s) (ends-other b (withReturns s) e r) ∙ rw (ih, content-on b s (ends-other b s e r)))
+    go : (t : Bool) → is_line_feed b ≡ t → is_carriage_return b ≡ false → content_of (with_returns s) ≡ content_of s → content_of (with_returns (b ∷ s)) ≡ content_of (b ∷ s)
+    go true e r ih = rw (e, return_content b (with_returns s) e, content_none (b ∷ s) (omega (arith, ends_feed (b ∷ s) e)))
+    go false e r ih = rw e (content_on b (with_returns s) (ends_other b (with_returns s) e r) ∙ rw (ih, content_on b s (ends_other b s e r)))
 
-contents-returns : (begins : Bool) (at on : ℕ) (s : List ℕ) → NoReturn s → contentsFrom begins on (withReturns s) ≡ contentsFrom begins at s
-unfolding withReturns
-contents-returns begins at on [] h = contents-none begins on ∙ sym (contents-none begins at)
-contents-returns begins at on (b ∷ s) h = go (isLineFeed b) refl (content-returns (b ∷ s) h) λ begun from. contents-returns begun (at + 1) from s (first-other b s h).1
+contents_returns : (begins : Bool) (at on : ℕ) (s : List ℕ) → NoReturn s → contents_from begins on (with_returns s) ≡ contents_from begins at s
+unfolding with_returns
+contents_returns begins at on [] h = contents_none begins on ∙ sym (contents_none begins at)
+contents_returns begins at on (b ∷ s) h = go (is_line_feed b) refl (content_returns (b ∷ s) h) λ begun from. contents_returns begun (at + 1) from s (first_other b s h).1
   where
-    go : (t : Bool) → isLineFeed b ≡ t → contentOf (withReturns (b ∷ s)) ≡ contentOf (b ∷ s) → ((begun : Bool) (from : ℕ) → contentsFrom begun from (withReturns s) ≡ contentsFrom begun (at + 1) s) → contentsFrom begins on (withReturns (b ∷ s)) ≡ contentsFrom begins at (b ∷ s)
-    go true e c ih = rw (contents-cons begins at b s, returns-feed b s e, contents-cons begins on 13 (b ∷ withReturns s), ← c, returns-feed b s e, return-lines b (withReturns s) e (on + 1), ih true (on + 1 + 1), e)
-    go false e c ih = rw (contents-cons begins at b s, returns-other b s e, contents-cons begins on b (withReturns s), ← c, returns-other b s e, e, ih false (on + 1))
+    go : (t : Bool) → is_line_feed b ≡ t → content_of (with_returns (b ∷ s)) ≡ content_of (b ∷ s) → ((begun : Bool) (from : ℕ) → contents_from begun from (with_returns s) ≡ contents_from begun (at + 1) s) → contents_from begins on (with_returns (b ∷ s)) ≡ contents_from begins at (b ∷ s)
+    go true e c ih = rw (contents_cons begins at b s, returns_feed b s e, contents_cons begins on 13 (b ∷ with_returns s), ← c, returns_feed b s e, return_lines b (with_returns s) e (on + 1), ih true (on + 1 + 1), e)
+    go false e c ih = rw (contents_cons begins at b s, returns_other b s e, contents_cons begins on b (with_returns s), ← c, returns_other b s e, e, ih false (on + 1))
 
-pub returns-keep-contents : ReturnsKeepContents
-returns-keep-contents bytes none = sym (contents-returns true 0 0 bytes none)
+pub returns_keep_contents : ReturnsKeepContents
+returns_keep_contents bytes none = sym (contents_returns true 0 0 bytes none)
 
-returns-longer : (s : List ℕ) → length s ≤ length (withReturns s)
-unfolding withReturns
-returns-longer [] = omega arith
-returns-longer (b ∷ s) = go (isLineFeed b) (returns-longer s)
+returns_longer : (s : List ℕ) → length s ≤ length (with_returns s)
+unfolding with_returns
+returns_longer [] = omega arith
+returns_longer (b ∷ s) = go (is_line_feed b) (returns_longer s)
   where
-    go : (t : Bool) → length s ≤ length (withReturns s) → suc (length s) ≤ length (cond t (13 ∷ b ∷ withReturns s) (b ∷ withReturns s))
+    go : (t : Bool) → length s ≤ length (with_returns s) → suc (length s) ≤ length (cond t (13 ∷ b ∷ with_returns s) (b ∷ with_returns s))
     go true ih = omega arith
     go false ih = omega arith
 
 -- ---- what goes by the contents of the lines
-pub by-contents : {A : Type 0} {f : TextLine → List A} → ((l m : TextLine) → l.bytes ≡ m.bytes → f l ≡ f m) → (a b : List ℕ) → contents a ≡ contents b → flat_map f (textLines a) ≡ flat_map f (textLines b)
-by-contents moved a b same = flatMap-same (λ l. l.bytes) moved (textLines a) (textLines b) same
+pub by_contents : {A : Type 0} {f : TextLine → List A} → ((l m : TextLine) → l.bytes ≡ m.bytes → f l ≡ f m) → (a b : List ℕ) → contents a ≡ contents b → flat_map f (text_lines a) ≡ flat_map f (text_lines b)
+by_contents moved a b same = flat_map_same (λ l. l.bytes) moved (text_lines a) (text_lines b) same
 
-pub returns-change-nothing : {A : Type 0} (read : List ℕ → Result A) → ContentsDecide read → ReturnsChangeNothing read
-returns-change-nothing read decides bytes x none short =
-    let same = returns-keep-contents bytes none in
-    (decides bytes (withReturns bytes) x same short, decides (withReturns bytes) bytes x (sym same) (omega (arith, returns-longer bytes)))
+pub returns_change_nothing : {A : Type 0} (read : List ℕ → Result A) → ContentsDecide read → ReturnsChangeNothing read
+returns_change_nothing read decides bytes x none short =
+    let same = returns_keep_contents bytes none in
+    (decides bytes (with_returns bytes) x same short, decides (with_returns bytes) bytes x (sym same) (omega (arith, returns_longer bytes)))

@@ -7,111 +7,111 @@ use native.Mathlib.Omega.{arith}
 use lib.Dec.{leb}
 use lib.ListN.{length, take, drop}
 use borrow.Author.Tests.{le-leb, lt-leb}
-use Rattle.edition.specs.Edition.{maxFileBytes}
+use Rattle.edition.specs.Edition.{max_file_bytes}
 use Rattle.refusal.specs.declared.Refusal.{Refusal}
 use Rattle.refusal.specs.declared.Subject.{Subject}
 use Rattle.refusal.specs.Lists.{every}
-use Rattle.refusal.specs.Numbers.{fileTooLong, byteNotAllowed}
+use Rattle.refusal.specs.Numbers.{file_too_long, byte_not_allowed}
 use Rattle.refusal.specs.Result.{Result, accepted, refused, refusal, ◌>>=◌, ◌>>◌}
-use Rattle.refusal.proofs.ResultLaws.{Yields, yields-accepted, yields-refused, yields-cond, yields-bind, yields-ensure, bind-accepted, ensure-accepted}
+use Rattle.refusal.proofs.ResultLaws.{Yields, yields_accepted, yields_refused, yields_cond, yields_bind, yields_ensure, bind_accepted, ensure_accepted}
 use Rattle.text.specs.declared.Class.TheVariants.{Space}
 use Rattle.text.specs.declared.LineFound.TheVariants.{Faulty}
-use Rattle.text.specs.Bytes.{isSpace, isAllowed}
-use Rattle.text.specs.Lines.{TextLine, lines_from, textLines, Token}
-use Rattle.text.specs.Reading.{nextToken, noMoreTokens, readAnyLine, readLines, readText}
-use Rattle.text.specs.Scan.{is_of, foundLine, line_at}
-use Rattle.text.proofs.LineLaws.{lineFrom, lines-turn, lines_end}
-use Rattle.text.proofs.FoundLineLaws.{Ended, line-faulty}
+use Rattle.text.specs.Bytes.{is_space, is_allowed}
+use Rattle.text.specs.Lines.{TextLine, lines_from, text_lines, Token}
+use Rattle.text.specs.Reading.{next_token, no_more_tokens, read_any_line, read_lines, read_text}
+use Rattle.text.specs.Scan.{is_of, found_line, line_at}
+use Rattle.text.proofs.LineLaws.{line_from, lines_turn, lines_end}
+use Rattle.text.proofs.FoundLineLaws.{Ended, line_faulty}
 
 module _ {B : Type 0} {Q : B → Type 0} (file : Subject) where
   -- the first of the tokens, then the next step
-  pub yields-next : (l : TextLine) (ts : List Token) {next : Token × List Token → Result B} → ((p : Token × List Token) → ts ≡ p.0 ∷ p.1 → Yields Q (next p)) → Yields Q (nextToken file l ts >>= next)
-  yields-next l [] n = yields-refused
-  yields-next l (t ∷ ts) n = n (t, ts) refl
+  pub yields_next : (l : TextLine) (ts : List Token) {next : Token × List Token → Result B} → ((p : Token × List Token) → ts ≡ p.0 ∷ p.1 → Yields Q (next p)) → Yields Q (next_token file l ts >>= next)
+  yields_next l [] n = yields_refused
+  yields_next l (t ∷ ts) n = n (t, ts) refl
 
   -- no token, then the next step
-  pub yields-no-more : (ts : List Token) {next : Result B} → (ts ≡ [] → Yields Q next) → Yields Q (noMoreTokens file ts >> next)
-  yields-no-more [] n = n refl
-  yields-no-more (t ∷ ts) n = yields-refused
+  pub yields_no_more : (ts : List Token) {next : Result B} → (ts ≡ [] → Yields Q next) → Yields Q (no_more_tokens file ts >> next)
+  yields_no_more [] n = n refl
+  yields_no_more (t ∷ ts) n = yields_refused
 
 -- a line's bytes are allowed
 abbrev pub IsAllowed : TextLine → Type 0
-IsAllowed l = every isAllowed l.bytes ≡ true
+IsAllowed l = every is_allowed l.bytes ≡ true
 
 -- a line in front of lines is accepted only if its bytes are allowed
-pub line-allowed : {State : Type 0} (file : Subject) (readLine : State → TextLine → Result State) (l : TextLine) (ls : List TextLine) (s u : State) → readLines file readLine s (l ∷ ls) ≡ accepted u → IsAllowed l
-unfolding readLines readAnyLine
-line-allowed file readLine l ls s u e = let p = bind-accepted (readAnyLine file readLine s l) (λ t. readLines file readLine t ls) u e in (ensure-accepted (every isAllowed l.bytes) _ _ p.0 p.1).0
+pub line_allowed : {State : Type 0} (file : Subject) (read_line : State → TextLine → Result State) (l : TextLine) (ls : List TextLine) (s u : State) → read_lines file read_line s (l ∷ ls) ≡ accepted u → IsAllowed l
+unfolding read_lines read_any_line
+line_allowed file read_line l ls s u e = let p = bind_accepted (read_any_line file read_line s l) (λ t. read_lines file read_line t ls) u e in (ensure_accepted (every is_allowed l.bytes) _ _ p.0 p.1).0
 
 -- what each line keeps holds of the whole
-module _ {State : Type 0} {P : State → Type 0} (file : Subject) (readLine : State → TextLine → Result State) (keeps : (s : State) (l : TextLine) → P s → Yields P (readLine s l)) where
-  keeps-any-line : (s : State) (l : TextLine) → P s → Yields P (readAnyLine file readLine s l)
-  unfolding readAnyLine
-  keeps-any-line s l h = yields-ensure (every isAllowed l.bytes) _ λ _. yields-cond (every isSpace l.bytes) (yields-accepted h) (keeps s l h)
+module _ {State : Type 0} {P : State → Type 0} (file : Subject) (read_line : State → TextLine → Result State) (keeps : (s : State) (l : TextLine) → P s → Yields P (read_line s l)) where
+  keeps_any_line : (s : State) (l : TextLine) → P s → Yields P (read_any_line file read_line s l)
+  unfolding read_any_line
+  keeps_any_line s l h = yields_ensure (every is_allowed l.bytes) _ λ _. yields_cond (every is_space l.bytes) (yields_accepted h) (keeps s l h)
 
-  keeps-lines : (s : State) (ls : List TextLine) → P s → Yields P (readLines file readLine s ls)
-  unfolding readLines
-  keeps-lines s [] h = yields-accepted h
-  keeps-lines s (l ∷ ls) h = yields-bind (keeps-any-line s l h) λ t k. keeps-lines t ls k
+  keeps_lines : (s : State) (ls : List TextLine) → P s → Yields P (read_lines file read_line s ls)
+  unfolding read_lines
+  keeps_lines s [] h = yields_accepted h
+  keeps_lines s (l ∷ ls) h = yields_bind (keeps_any_line s l h) λ t k. keeps_lines t ls k
 
-  pub keeps-text : (s : State) (bytes : List ℕ) → P s → Yields P (readText file readLine s bytes)
-  unfolding readText
-  keeps-text s bytes h = yields-ensure (leb (length bytes) maxFileBytes) _ λ _. keeps-lines s (textLines bytes) h
+  pub keeps_text : (s : State) (bytes : List ℕ) → P s → Yields P (read_text file read_line s bytes)
+  unfolding read_text
+  keeps_text s bytes h = yields_ensure (leb (length bytes) max_file_bytes) _ λ _. keeps_lines s (text_lines bytes) h
 
-module _ {State : Type 0} (file : Subject) (readLine : State → TextLine → Result State) where
+module _ {State : Type 0} (file : Subject) (read_line : State → TextLine → Result State) where
   -- ---- any line whose bytes are allowed
-  module _ (s : State) (text : List ℕ) (at next : ℕ) (allowed : every isAllowed (drop at text) ≡ true) where
-    pub fine-blank : every (is_of Space) (drop at text) ≡ true → accepted s ≡ readAnyLine file readLine s (line_at text at next)
-    unfolding readAnyLine is_of
-    fine-blank b = rw (allowed, b)
+  module _ (s : State) (text : List ℕ) (at next : ℕ) (allowed : every is_allowed (drop at text) ≡ true) where
+    pub fine_blank : every (is_of Space) (drop at text) ≡ true → accepted s ≡ read_any_line file read_line s (line_at text at next)
+    unfolding read_any_line is_of
+    fine_blank b = rw (allowed, b)
 
-    pub fine-line : every (is_of Space) (drop at text) ≡ false → readLine s (line_at text at next) ≡ readAnyLine file readLine s (line_at text at next)
-    unfolding readAnyLine is_of
-    fine-line b = rw (allowed, b)
+    pub fine_line : every (is_of Space) (drop at text) ≡ false → read_line s (line_at text at next) ≡ read_any_line file read_line s (line_at text at next)
+    unfolding read_any_line is_of
+    fine_line b = rw (allowed, b)
 
   -- ---- the loop: what is left to read, from the state that is reached, is what there was to read
   module _ (start : State) (bytes : List ℕ) where
     pub record Reading (s : State) (i : ℕ) : Type 0 where
       pub within : i ≤ length bytes
-      pub rest : readLines file readLine s (lines_from true i (drop i bytes)) ≡ readLines file readLine start (textLines bytes)
+      pub rest : read_lines file read_line s (lines_from true i (drop i bytes)) ≡ read_lines file read_line start (text_lines bytes)
 
-    pub reading-starts : Reading start 0
-    reading-starts = record { within = omega arith; rest = refl }
+    pub reading_starts : Reading start 0
+    reading_starts = record { within = omega arith; rest = refl }
 
     module _ {s : State} {i : ℕ} (inv : Reading s i) where
-      pub reading-ends : length bytes ≤ i → accepted s ≡ readLines file readLine start (textLines bytes)
-      unfolding readLines
-      reading-ends h = rw (lines_end bytes i h) at inv.rest
+      pub reading_ends : length bytes ≤ i → accepted s ≡ read_lines file read_line start (text_lines bytes)
+      unfolding read_lines
+      reading_ends h = rw (lines_end bytes i h) at inv.rest
 
       -- the line at i
       module _ (h : i < length bytes) where
-        line-stops : (r : Refusal) → refused r ≡ readAnyLine file readLine s (lineFrom bytes i) → refused r ≡ readLines file readLine start (textLines bytes)
-        unfolding readLines
-        line-stops r e = rw (← e) at (rw (lines-turn bytes i h) at inv.rest)
+        line_stops : (r : Refusal) → refused r ≡ read_any_line file read_line s (line_from bytes i) → refused r ≡ read_lines file read_line start (text_lines bytes)
+        unfolding read_lines
+        line_stops r e = rw (← e) at (rw (lines_turn bytes i h) at inv.rest)
 
-        line-goes : (t : State) → accepted t ≡ readAnyLine file readLine s (lineFrom bytes i) → readLines file readLine t (lines_from true (lineFrom bytes i).next (drop (lineFrom bytes i).next bytes)) ≡ readLines file readLine start (textLines bytes)
-        unfolding readLines
-        line-goes t e = rw (← e) at (rw (lines-turn bytes i h) at inv.rest)
+        line_goes : (t : State) → accepted t ≡ read_any_line file read_line s (line_from bytes i) → read_lines file read_line t (lines_from true (line_from bytes i).next (drop (line_from bytes i).next bytes)) ≡ read_lines file read_line start (text_lines bytes)
+        unfolding read_lines
+        line_goes t e = rw (← e) at (rw (lines_turn bytes i h) at inv.rest)
 
         -- its content ends at `stop`, and the next line starts at `next`
         module _ (stop next : ℕ) (end : Ended bytes i stop next) where
-          pub reading-stops : (r : Refusal) → refused r ≡ readAnyLine file readLine s (line_at (take stop bytes) i next) → refused r ≡ readLines file readLine start (textLines bytes)
-          reading-stops r e = line-stops r (rw end.line e)
+          pub reading_stops : (r : Refusal) → refused r ≡ read_any_line file read_line s (line_at (take stop bytes) i next) → refused r ≡ read_lines file read_line start (text_lines bytes)
+          reading_stops r e = line_stops r (rw end.line e)
 
-          pub reading-goes : (t : State) → accepted t ≡ readAnyLine file readLine s (line_at (take stop bytes) i next) → Reading t next
-          reading-goes t e = record { within = end.inside; rest = rw end.line at (line-goes t (rw end.line e)) }
+          pub reading_goes : (t : State) → accepted t ≡ read_any_line file read_line s (line_at (take stop bytes) i next) → Reading t next
+          reading_goes t e = record { within = end.inside; rest = rw end.line at (line_goes t (rw end.line e)) }
 
         -- a byte of it is not allowed
-        pub reading-faults : (bad : ℕ) → Faulty bad ≡ foundLine (lineFrom bytes i) → refused (refusal file byteNotAllowed bad) ≡ readLines file readLine start (textLines bytes)
-        unfolding readAnyLine
-        reading-faults bad e = let q = line-faulty (lineFrom bytes i) bad e in line-stops _ (rw (q.0, q.1))
+        pub reading_faults : (bad : ℕ) → Faulty bad ≡ found_line (line_from bytes i) → refused (refusal file byte_not_allowed bad) ≡ read_lines file read_line start (text_lines bytes)
+        unfolding read_any_line
+        reading_faults bad e = let q = line_faulty (line_from bytes i) bad e in line_stops _ (rw (q.0, q.1))
 
   -- ---- the whole text
   module _ (s : State) (bytes : List ℕ) where
-    pub text-long : maxFileBytes < length bytes → refused (refusal file fileTooLong maxFileBytes) ≡ readText file readLine s bytes
-    unfolding readText
-    text-long h = rw (lt-leb (length bytes) maxFileBytes h)
+    pub text_long : max_file_bytes < length bytes → refused (refusal file file_too_long max_file_bytes) ≡ read_text file read_line s bytes
+    unfolding read_text
+    text_long h = rw (lt-leb (length bytes) max_file_bytes h)
 
-    pub text-lines : length bytes ≤ maxFileBytes → readLines file readLine s (textLines bytes) ≡ readText file readLine s bytes
-    unfolding readText
-    text-lines h = rw (le-leb (length bytes) maxFileBytes h)
+    pub text_lines_lem : length bytes ≤ max_file_bytes → read_lines file read_line s (text_lines bytes) ≡ read_text file read_line s bytes
+    unfolding read_text
+    text_lines_lem h = rw (le-leb (length bytes) max_file_bytes h)

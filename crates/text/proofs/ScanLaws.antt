@@ -9,22 +9,22 @@ use Rattle.text.specs.Scan.{past, Scanned}
 use Rattle.text.proofs.RunLaws.{past_more, past_stop, past_end}
 
 module _ {test : ℕ → Bool} {text : List ℕ} {at : ℕ} where
-  pub scan-starts : at ≤ length text → Scanned test text at at
-  scan-starts h = record { within = h; onward = omega arith; ends = refl }
+  pub scan_starts : at ≤ length text → Scanned test text at at
+  scan_starts h = record { within = h; onward = omega arith; ends = refl }
 
   module _ {i : ℕ} (s : Scanned test text at i) where
     -- with the text
-    pub scan-ends : length text ≤ i → i ≡ past test text at
-    scan-ends h = sym (past_end test text i h) ∙ s.ends
+    pub scan_ends : length text ≤ i → i ≡ past test text at
+    scan_ends h = sym (past_end test text i h) ∙ s.ends
 
     -- over what another scan from i passed
-    pub scan-leaps : {r : ℕ} → Scanned test text i r → Scanned test text at r
-    scan-leaps t = record { within = t.within; onward = omega arith; ends = t.ends ∙ s.ends }
+    pub scan_leaps : {r : ℕ} → Scanned test text i r → Scanned test text at r
+    scan_leaps t = record { within = t.within; onward = omega arith; ends = t.ends ∙ s.ends }
 
     -- the byte at i, and whether it passes
     module _ (h : i < length text) {r : Bool} (e : r ≡ test (get_or text i 0)) where
       pub scan_steps : r ≡ true → Scanned test text at (i + 1)
       scan_steps k = record { within = omega arith; onward = omega arith; ends = past_more test text i h (sym e ∙ k) ∙ s.ends }
 
-      pub scan-stops : r ≡ false → i ≡ past test text at
-      scan-stops k = sym (past_stop test text i h (sym e ∙ k)) ∙ s.ends
+      pub scan_stops : r ≡ false → i ≡ past test text at
+      scan_stops k = sym (past_stop test text i h (sym e ∙ k)) ∙ s.ends

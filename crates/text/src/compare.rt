@@ -1,7 +1,7 @@
 // Comparisons of texts.
 ghost use Rattle.std.specs.Prelude.{◌≡◌, ◌+◌, ◌≤◌, length, take, drop};
 ghost use Rattle.text.specs.Bytes.{same};
-ghost use Rattle.text.specs.Scan.{sameAt};
+ghost use Rattle.text.specs.Scan.{same_at};
 
 // The bytes of a block.
 const BLOCK: usize = 8;
@@ -10,7 +10,7 @@ const BLOCK: usize = 8;
 // The compiler makes one comparison of it.
 fn same2(file: &[u8], a: usize, text: &[u8], b: usize) -> bool
     requires { (a + 2 ≤ length file.now) × (b + 2 ≤ length text.now) }
-    ensures { result ≡ sameAt file.now a text.now b 2 }
+    ensures { result ≡ same_at file.now a text.now b 2 }
 {
     let next = a + 1;
     let beside = b + 1;
@@ -19,14 +19,14 @@ fn same2(file: &[u8], a: usize, text: &[u8], b: usize) -> bool
 
 fn same4(file: &[u8], a: usize, text: &[u8], b: usize) -> bool
     requires { (a + 4 ≤ length file.now) × (b + 4 ≤ length text.now) }
-    ensures { result ≡ sameAt file.now a text.now b 4 }
+    ensures { result ≡ same_at file.now a text.now b 4 }
 {
     same2(file, a, text, b) & same2(file, a + 2, text, b + 2)
 }
 
 fn same8(file: &[u8], a: usize, text: &[u8], b: usize) -> bool
     requires { (a + 8 ≤ length file.now) × (b + 8 ≤ length text.now) }
-    ensures { result ≡ sameAt file.now a text.now b 8 }
+    ensures { result ≡ same_at file.now a text.now b 8 }
 {
     same4(file, a, text, b) & same4(file, a + 4, text, b + 4)
 }

@@ -1,11 +1,11 @@
 // Decimal numbers and types.
 ghost use Rattle.std.specs.Prelude.{◌≡◌, cond, ◌&&◌, ◌+◌, ◌≤◌, leb, length, drop};
-ghost use Rattle.edition.specs.Edition.{isWidth};
+ghost use Rattle.edition.specs.Edition.{is_width};
 ghost use Rattle.text.specs.declared.Class.TheVariants.{Digit, Solid};
 ghost use Rattle.text.specs.declared.Number.TheVariants.{TooBig, Misspelt};
 ghost use Rattle.text.specs.declared.TypeRead.TheVariants.{Width, NoWidth, NoType};
-ghost use Rattle.text.specs.Bytes.{frontOf};
-ghost use Rattle.text.specs.Scan.{is_of, past, magnitude, numberRead, typeWithDigits, typeBehindColon, StopsAt};
+ghost use Rattle.text.specs.Bytes.{front_of};
+ghost use Rattle.text.specs.Scan.{is_of, past, magnitude, number_read, type_with_digits, type_behind_colon, StopsAt};
 
 use super::scan::{is_digit, scan, token_ends};
 use super::{Class, Digits, Number, TypeFound, TypeRead};
@@ -28,7 +28,7 @@ fn too_big(text: &[u8], at: usize) -> Digits
 // The digits from `at` on; where none stand there, their number is 0.
 pub fn digits_at(text: &[u8], at: usize) -> Digits
     requires { at ≤ length text.now }
-    ensures { (result.number ≡ magnitude (frontOf (is_of Digit) (drop at text.now))) × (result.stop ≡ past (is_of Digit) text.now at) }
+    ensures { (result.number ≡ magnitude (front_of (is_of Digit) (drop at text.now))) × (result.stop ≡ past (is_of Digit) text.now at) }
 {
     let mut n: u64 = 0;
     let mut i = at;
@@ -72,7 +72,7 @@ pub fn within_digits(number: Number, digits: usize, most: usize) -> Number
 // The number of 1 to `most` digits from `at` to the end.
 pub fn number_at(text: &[u8], at: usize, most: usize) -> Number
     requires { at ≤ length text.now }
-    ensures { result ≡ numberRead most (drop at text.now) }
+    ensures { result ≡ number_read most (drop at text.now) }
 {
     let digits = digits_at(text, at);
     let stop = digits.stop;
@@ -86,7 +86,7 @@ pub fn number_at(text: &[u8], at: usize, most: usize) -> Number
 // The number of 1 to `most` digits behind the byte at `at`; none where the text ends there.
 pub fn number_behind(text: &[u8], at: usize, most: usize) -> Number
     requires { at ≤ length text.now }
-    ensures { result ≡ numberRead most (drop (at + 1) text.now) }
+    ensures { result ≡ number_read most (drop (at + 1) text.now) }
 {
     if at < text.len() {
         let next = at + 1;
@@ -98,7 +98,7 @@ pub fn number_behind(text: &[u8], at: usize, most: usize) -> Number
 
 // A width that is spelt right.
 fn width(k: u64) -> TypeRead
-    ensures { result ≡ cond (isWidth k) (Width k) NoWidth }
+    ensures { result ≡ cond (is_width k) (Width k) NoWidth }
 {
     if Edition::is_width(k) {
         TypeRead::Width(k)
@@ -120,7 +120,7 @@ fn no_type(at: usize) -> TypeFound
 // The K of a type, from `at` to the end of the token: one or two digits.
 fn width_at(line: &[u8], at: usize) -> TypeFound
     requires { at ≤ length line.now }
-    ensures { (result.kind ≡ typeWithDigits (frontOf (is_of Solid) (drop at line.now))) × StopsAt (past (is_of Solid) line.now at) result.stop result.kind }
+    ensures { (result.kind ≡ type_with_digits (front_of (is_of Solid) (drop at line.now))) × StopsAt (past (is_of Solid) line.now at) result.stop result.kind }
 {
     if at == line.len() {
         return no_type(at);
@@ -153,7 +153,7 @@ fn width_at(line: &[u8], at: usize) -> TypeFound
 // The colon and the type `iK` from `at` to the end of the token; where they are not there, it is left open where the token stops.
 pub fn type_at(line: &[u8], at: usize) -> TypeFound
     requires { at ≤ length line.now }
-    ensures { (result.kind ≡ typeBehindColon (frontOf (is_of Solid) (drop at line.now))) × StopsAt (past (is_of Solid) line.now at) result.stop result.kind }
+    ensures { (result.kind ≡ type_behind_colon (front_of (is_of Solid) (drop at line.now))) × StopsAt (past (is_of Solid) line.now at) result.stop result.kind }
 {
     if line.len() - at < 2 {
         return no_type(at);

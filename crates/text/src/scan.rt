@@ -1,15 +1,15 @@
 // Scanners: one loop for every class of bytes.
 ghost use Rattle.std.specs.Prelude.{◌≡◌, true, ◌+◌, ◌^◌, ◌≤◌, ◌<◌, length, drop};
 ghost use Rattle.refusal.specs.Lists.{every};
-ghost use Rattle.text.specs.Bytes.{isSpace, isDigit, isLetter, isNameByte, isPrinting, isAllowed};
-ghost use Rattle.text.specs.Lines.{terminatorLength, line_of, tokensFrom, leads as leadsBy};
+ghost use Rattle.text.specs.Bytes.{is_space, is_digit, is_letter, is_name_byte, is_printing, is_allowed};
+ghost use Rattle.text.specs.Lines.{terminator_length, line_of, tokens_from, leads as leadsBy};
 ghost use Rattle.text.specs.declared.Class.TheVariants.{Space, Printing};
-ghost use Rattle.text.specs.Scan.{is_of, past, stopDigit, stopDigitsAt, foundLine, endsToken, tokensBy, Within};
+ghost use Rattle.text.specs.Scan.{is_of, past, stop_digit, stop_digits_at, found_line, ends_token, tokens_by, Within};
 
 use super::{Class, LineFound, NextToken, Span};
 
 fn is_space(b: u8) -> bool
-    ensures { result ≡ isSpace b }
+    ensures { result ≡ is_space b }
 {
     if b' ' < b {
         false
@@ -19,25 +19,25 @@ fn is_space(b: u8) -> bool
 }
 
 pub(crate) fn is_digit(b: u8) -> bool
-    ensures { result ≡ isDigit b }
+    ensures { result ≡ is_digit b }
 {
     (b'0' <= b) & (b <= b'9')
 }
 
 pub fn is_letter(b: u8) -> bool
-    ensures { result ≡ isLetter b }
+    ensures { result ≡ is_letter b }
 {
     ((b'a' <= b) & (b <= b'z')) | ((b'A' <= b) & (b <= b'Z'))
 }
 
 pub fn is_name_byte(b: u8) -> bool
-    ensures { result ≡ isNameByte b }
+    ensures { result ≡ is_name_byte b }
 {
     is_letter(b) | is_digit(b) | (b == b'_')
 }
 
 fn is_printing(b: u8) -> bool
-    ensures { result ≡ isPrinting b }
+    ensures { result ≡ is_printing b }
 {
     (b' ' <= b) & (b <= b'~')
 }
@@ -90,7 +90,7 @@ pub fn spaces(text: &[u8], at: usize) -> usize
 // Whether a token that reaches `at` ends there.
 pub fn token_ends(line: &[u8], at: usize) -> bool
     requires { at ≤ length line.now }
-    ensures { result ≡ endsToken (drop at line.now) }
+    ensures { result ≡ ends_token (drop at line.now) }
 {
     if at == line.len() {
         return true;
@@ -100,7 +100,7 @@ pub fn token_ends(line: &[u8], at: usize) -> bool
 
 // 1 for a byte that is not printing, 0 for one that is.
 fn stop_digit(b: u8) -> u32
-    ensures { (result ≡ stopDigit b) × (result < 2) }
+    ensures { (result ≡ stop_digit b) × (result < 2) }
 {
     if is_printing(b) { 0 } else { 1 }
 }
@@ -109,7 +109,7 @@ fn stop_digit(b: u8) -> u32
 // The compiler makes vector code of it.
 fn stops2(text: &[u8], at: usize) -> u32
     requires { at + 2 ≤ length text.now }
-    ensures { (result ≡ stopDigitsAt text.now at 2) × (result < 2 ^ 2) }
+    ensures { (result ≡ stop_digits_at text.now at 2) × (result < 2 ^ 2) }
 {
     let next = at + 1;
     stop_digit(text[at]) + 2 * stop_digit(text[next])
@@ -117,21 +117,21 @@ fn stops2(text: &[u8], at: usize) -> u32
 
 fn stops4(text: &[u8], at: usize) -> u32
     requires { at + 4 ≤ length text.now }
-    ensures { (result ≡ stopDigitsAt text.now at 4) × (result < 2 ^ 4) }
+    ensures { (result ≡ stop_digits_at text.now at 4) × (result < 2 ^ 4) }
 {
     stops2(text, at) + 4 * stops2(text, at + 2)
 }
 
 fn stops8(text: &[u8], at: usize) -> u32
     requires { at + 8 ≤ length text.now }
-    ensures { (result ≡ stopDigitsAt text.now at 8) × (result < 2 ^ 8) }
+    ensures { (result ≡ stop_digits_at text.now at 8) × (result < 2 ^ 8) }
 {
     stops4(text, at) + 16 * stops4(text, at + 4)
 }
 
 fn stops16(text: &[u8], at: usize) -> u32
     requires { at + 16 ≤ length text.now }
-    ensures { result ≡ stopDigitsAt text.now at 16 }
+    ensures { result ≡ stop_digits_at text.now at 16 }
 {
     stops8(text, at) + 256 * stops8(text, at + 8)
 }
@@ -155,7 +155,7 @@ fn printing_bytes(text: &[u8], at: usize) -> usize
 // Where the bytes allowed in a line stop: runs of printing bytes, and tabs between them.
 fn allowed(text: &[u8], at: usize) -> usize
     requires { at ≤ length text.now }
-    ensures { result ≡ past isAllowed text.now at }
+    ensures { result ≡ past is_allowed text.now at }
 {
     let mut i = printing_bytes(text, at);
     while i < text.len() {
@@ -180,7 +180,7 @@ pub fn all(text: &[u8], at: usize, class: Class) -> bool
 // The length of the terminator at `at`: LF, or CR LF.
 fn terminator_length(file: &[u8], at: usize) -> usize
     requires { at < length file.now }
-    ensures { result ≡ terminatorLength (drop at file.now) }
+    ensures { result ≡ terminator_length (drop at file.now) }
 {
     if file[at] == b'\n' {
         return 1;
@@ -199,7 +199,7 @@ fn terminator_length(file: &[u8], at: usize) -> usize
 // The line from `at` on. Its terminator is not allowed in it, so that one scan finds its end and a byte that is not allowed.
 pub fn find_line(file: &[u8], at: usize) -> LineFound
     requires { at ≤ length file.now }
-    ensures { result ≡ foundLine (line_of at (drop at file.now)) }
+    ensures { result ≡ found_line (line_of at (drop at file.now)) }
 {
     let stop = allowed(file, at);
     if file.len() <= stop {
@@ -215,7 +215,7 @@ pub fn find_line(file: &[u8], at: usize) -> LineFound
 // The first token of a line from `at` on.
 pub fn next_token(line: &[u8], at: usize) -> NextToken
     requires { at ≤ length line.now }
-    ensures { (tokensFrom true at (drop at line.now) ≡ tokensBy line.now result) × Within line.now at result }
+    ensures { (tokens_from true at (drop at line.now) ≡ tokens_by line.now result) × Within line.now at result }
 {
     let start = scan(line, at, Class::Space);
     if start == line.len() {

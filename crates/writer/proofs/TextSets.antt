@@ -8,81 +8,81 @@ use native.Mathlib.Omega.{arith}
 use lib.Dec.{eqb}
 use lib.ListN.{length, get_or, replicate, length-append}
 use Rattle.edition.specs.declared.Edition.{Edition}
-use Rattle.edition.specs.Edition.{maxVariables, maxFileBytes}
+use Rattle.edition.specs.Edition.{max_variables, max_file_bytes}
 use Rattle.refusal.specs.Lists.{every}
 use Rattle.refusal.proofs.BoolLaws.{and_one}
-use Rattle.text.specs.Bytes.{frontOf, isSpace, isAllowed}
-use Rattle.text.specs.Lines.{textLines, tokenOf, tokensFrom, leads}
+use Rattle.text.specs.Bytes.{front_of, is_space, is_allowed}
+use Rattle.text.specs.Lines.{text_lines, token_of, tokens_from, leads}
 use Rattle.constraint.specs.File.{Variable, name_at, width_at}
 use Rattle.constraint.specs.Sound.{Each, SoundVariable, Distinct}
 use Rattle.answer.specs.SolutionWords.{satisfiable}
-use Rattle.answer.specs.Claims.{Sets, letterOf, letters, tokensOf, values_of}
-use Rattle.writer.specs.Text.{settingsText, valuesLine, answerText}
-use Rattle.text.proofs.SeenLaws.{seen-allowed}
-use Rattle.writer.proofs.PrintableLaws.{Printables, printables, settings-more, settings-every, settings-short}
-use Rattle.writer.proofs.PrintedLines.{text-lines}
-use Rattle.constraint.proofs.SpacedLaws.{spacedTokens}
-use Rattle.writer.proofs.PrintedTokens.{settingTokens, settings-tokens, tokens-set, values_one}
+use Rattle.answer.specs.Claims.{Sets, letter_of, letters, tokens_of, values_of}
+use Rattle.writer.specs.Text.{settings_text, values_line, answer_text}
+use Rattle.text.proofs.SeenLaws.{seen_allowed}
+use Rattle.writer.proofs.PrintableLaws.{Printables, printables, settings_more, settings_every, settings_short}
+use Rattle.writer.proofs.PrintedLines.{text_lines_lem}
+use Rattle.constraint.proofs.SpacedLaws.{spaced_tokens}
+use Rattle.writer.proofs.PrintedTokens.{setting_tokens, settings_tokens, tokens_set, values_one}
 
 -- the text is short enough for a file
-text-short : (xs : List Variable) (row : List ℕ) → length xs ≤ maxVariables → Printables xs row → length (answerText xs row) ≤ maxFileBytes
-unfolding answerText valuesLine
-text-short [] row h g = omega arith
-text-short (x ∷ xs) row h g = omega (arith, settings-short (x ∷ xs) row g, length-append (settingsText (x ∷ xs) row) (10 ∷ []))
+text_short : (xs : List Variable) (row : List ℕ) → length xs ≤ max_variables → Printables xs row → length (answer_text xs row) ≤ max_file_bytes
+unfolding answer_text values_line
+text_short [] row h g = omega arith
+text_short (x ∷ xs) row h g = omega (arith, settings_short (x ∷ xs) row g, length-append (settings_text (x ∷ xs) row) (10 ∷ []))
 
 -- its bytes are allowed
-text-allowed : (xs : List Variable) (row : List ℕ) → Printables xs row → Each (λ l. every isAllowed l.bytes ≡ true) (textLines (answerText xs row))
-unfolding every isAllowed
-text-allowed [] row g = rw (text-lines [] row g) (refl, tt)
-text-allowed (x ∷ xs) row g = rw (text-lines (x ∷ xs) row g) (refl, (settings-every isAllowed refl seen-allowed (x ∷ xs) row g, tt))
+text_allowed : (xs : List Variable) (row : List ℕ) → Printables xs row → Each (λ l. every is_allowed l.bytes ≡ true) (text_lines (answer_text xs row))
+unfolding every is_allowed
+text_allowed [] row g = rw (text_lines_lem [] row g) (refl, tt)
+text_allowed (x ∷ xs) row g = rw (text_lines_lem (x ∷ xs) row g) (refl, (settings_every is_allowed refl seen_allowed (x ∷ xs) row g, tt))
 
 -- the line of the values is led by `v`, and by no other letter
-leads-values : (b : ℕ) (x : Variable) (xs : List Variable) (v : ℕ) (row : List ℕ) → leads b (118 ∷ settingsText (x ∷ xs) (v ∷ row)) ≡ eqb b 118
-unfolding leads isSpace
-leads-values b x xs v row = rw (settings-more x xs v row, and_one)
+leads_values : (b : ℕ) (x : Variable) (xs : List Variable) (v : ℕ) (row : List ℕ) → leads b (118 ∷ settings_text (x ∷ xs) (v ∷ row)) ≡ eqb b 118
+unfolding leads is_space
+leads_values b x xs v row = rw (settings_more x xs v row, and_one)
 
 -- how many lines of values there are
-abbrev valuesLines : List Variable → ℕ
-valuesLines [] = 0
-valuesLines (x ∷ xs) = 1
+abbrev values_lines : List Variable → ℕ
+values_lines [] = 0
+values_lines (x ∷ xs) = 1
 
 -- its lines: `s`, and `v` where there are variables
-text-letters : (xs : List Variable) (row : List ℕ) → Printables xs row → letters (answerText xs row) ≡ code "s" ∷ replicate (valuesLines xs) (code "v")
-unfolding letters letterOf flat_map leads every isSpace
-text-letters [] row g = rw (text-lines [] row g)
-text-letters (x ∷ xs) [] g = absurd g
-text-letters (x ∷ xs) (v ∷ row) g = rw (text-lines (x ∷ xs) (v ∷ row) g, letterOf, leads-values 99 x xs v row, leads-values 115 x xs v row, leads-values 118 x xs v row)
+text_letters : (xs : List Variable) (row : List ℕ) → Printables xs row → letters (answer_text xs row) ≡ code "s" ∷ replicate (values_lines xs) (code "v")
+unfolding letters letter_of flat_map leads every is_space
+text_letters [] row g = rw (text_lines_lem [] row g)
+text_letters (x ∷ xs) [] g = absurd g
+text_letters (x ∷ xs) (v ∷ row) g = rw (text_lines_lem (x ∷ xs) (v ∷ row) g, letter_of, leads_values 99 x xs v row, leads_values 115 x xs v row, leads_values 118 x xs v row)
 
 -- the token of its `s` line
-text-word : (xs : List Variable) (row : List ℕ) → Printables xs row → map (λ t. t.bytes) (tokensOf (code "s") (answerText xs row)) ≡ satisfiable ∷ []
-unfolding tokensOf flat_map leads isSpace tokensFrom tokenOf frontOf
-text-word [] row g = rw (text-lines [] row g)
-text-word (x ∷ xs) [] g = absurd g
-text-word (x ∷ xs) (v ∷ row) g = rw (text-lines (x ∷ xs) (v ∷ row) g, leads-values 115 x xs v row)
+text_word : (xs : List Variable) (row : List ℕ) → Printables xs row → map (λ t. t.bytes) (tokens_of (code "s") (answer_text xs row)) ≡ satisfiable ∷ []
+unfolding tokens_of flat_map leads is_space tokens_from token_of front_of
+text_word [] row g = rw (text_lines_lem [] row g)
+text_word (x ∷ xs) [] g = absurd g
+text_word (x ∷ xs) (v ∷ row) g = rw (text_lines_lem (x ∷ xs) (v ∷ row) g, leads_values 115 x xs v row)
 
 -- the tokens of its `v` line
-text-settings : (xs : List Variable) (row : List ℕ) → Printables xs row → tokensOf (code "v") (answerText xs row) ≡ settingTokens 15 xs row
-unfolding tokensOf flat_map leads spacedTokens zip_with
-text-settings [] row g = rw (text-lines [] row g)
-text-settings (x ∷ xs) [] g = absurd g
-text-settings (x ∷ xs) (v ∷ row) g = rw (text-lines (x ∷ xs) (v ∷ row) g, leads-values 118 x xs v row) (append-nil (tokensFrom true 15 (settingsText (x ∷ xs) (v ∷ row))) ∙ settings-tokens (x ∷ xs) (v ∷ row) 15 g)
+text_settings : (xs : List Variable) (row : List ℕ) → Printables xs row → tokens_of (code "v") (answer_text xs row) ≡ setting_tokens 15 xs row
+unfolding tokens_of flat_map leads spaced_tokens zip_with
+text_settings [] row g = rw (text_lines_lem [] row g)
+text_settings (x ∷ xs) [] g = absurd g
+text_settings (x ∷ xs) (v ∷ row) g = rw (text_lines_lem (x ∷ xs) (v ∷ row) g, leads_values 118 x xs v row) (append-nil (tokens_from true 15 (settings_text (x ∷ xs) (v ∷ row))) ∙ settings_tokens (x ∷ xs) (v ∷ row) 15 g)
 
 -- every variable is set once, to its value
-text-once : (xs : List Variable) (row : List ℕ) → Printables xs row → Distinct xs → (i : ℕ) → i < length xs → values_of (name_at xs i) (answerText xs row) ≡ get_or row i 0 ∷ []
+text_once : (xs : List Variable) (row : List ℕ) → Printables xs row → Distinct xs → (i : ℕ) → i < length xs → values_of (name_at xs i) (answer_text xs row) ≡ get_or row i 0 ∷ []
 unfolding values_of
-text-once xs row g d i h = rw (text-settings xs row g) (values_one xs row 15 i g d h)
+text_once xs row g d i h = rw (text_settings xs row g) (values_one xs row 15 i g d h)
 
 -- what is printed is an answer that is accepted
-pub text-sets : (e : Edition) (xs : List Variable) (row : List ℕ) → length xs ≤ maxVariables → Each (SoundVariable e) xs → Distinct xs → length row ≡ length xs → ((i : ℕ) → i < length xs → get_or row i 0 < 2 ^ width_at xs i) → Sets xs (answerText xs row) row
-text-sets e xs row few sound distinct long fits =
+pub text_sets : (e : Edition) (xs : List Variable) (row : List ℕ) → length xs ≤ max_variables → Each (SoundVariable e) xs → Distinct xs → length row ≡ length xs → ((i : ℕ) → i < length xs → get_or row i 0 < 2 ^ width_at xs i) → Sets xs (answer_text xs row) row
+text_sets e xs row few sound distinct long fits =
     let g = printables e xs row sound long fits in
     record {
-      short = text-short xs row few g;
-      allowed = text-allowed xs row g;
-      more = valuesLines xs;
-      in_order = text-letters xs row g;
-      says-satisfiable = text-word xs row g;
-      no_other = rw (text-settings xs row g) (tokens-set xs row 15 g);
-      one-for-each = long;
-      once = text-once xs row g distinct;
+      short = text_short xs row few g;
+      allowed = text_allowed xs row g;
+      more = values_lines xs;
+      in_order = text_letters xs row g;
+      says_satisfiable = text_word xs row g;
+      no_other = rw (text_settings xs row g) (tokens_set xs row 15 g);
+      one_for_each = long;
+      once = text_once xs row g distinct;
     }

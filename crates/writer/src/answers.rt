@@ -1,10 +1,10 @@
 // The text of an answer, put into a room, and its length.
 ghost use Rattle.std.specs.Prelude.{◌≡◌, ◌+◌, ◌≤◌, length};
-ghost use Rattle.edition.specs.Edition.{maxVariables, maxFileBytes};
-ghost use Rattle.store.specs.Tables.{variableOf, variablesIn};
+ghost use Rattle.edition.specs.Edition.{max_variables, max_file_bytes};
+ghost use Rattle.store.specs.Tables.{variable_of, variables_in};
 ghost use Rattle.printing.specs.Room.{Put};
-ghost use Rattle.writer.specs.Text.{settingText, settingsText, valuesLine, answerText};
-ghost use Rattle.writer.specs.Bounds.{maxSettingsLength};
+ghost use Rattle.writer.specs.Text.{setting_text, settings_text, values_line, answer_text};
+ghost use Rattle.writer.specs.Bounds.{max_settings_length};
 
 use answer::words::satisfiable;
 use edition::Edition;
@@ -14,8 +14,8 @@ use store::variables::{name_length, name_start};
 
 // ` name=value`, for the variable of a word.
 fn put_setting(file: &[u8], word: u64, v: u64, room: &mut [u8], at: usize) -> usize
-    requires { at + length (settingText (variableOf file.now word) v) ≤ length room.old }
-    ensures { Put (settingText (variableOf file.now word) v) room.old at result room.new }
+    requires { at + length (setting_text (variable_of file.now word) v) ≤ length room.old }
+    ensures { Put (setting_text (variable_of file.now word) v) room.old at result room.new }
 {
     let name = put_byte(b' ', room, at);
     let equals = put_part(file, name_start(word), name_length(word), room, name);
@@ -24,8 +24,8 @@ fn put_setting(file: &[u8], word: u64, v: u64, room: &mut [u8], at: usize) -> us
 }
 
 fn setting_length(file: &[u8], word: u64, v: u64) -> usize
-    requires { length file.now ≤ maxFileBytes }
-    ensures { result ≡ length (settingText (variableOf file.now word) v) }
+    requires { length file.now ≤ max_file_bytes }
+    ensures { result ≡ length (setting_text (variable_of file.now word) v) }
 {
     let name = part(file, name_start(word), name_length(word));
     let first = name.start;
@@ -42,8 +42,8 @@ fn put_settings(
     room: &mut [u8],
     at: usize,
 ) -> usize
-    requires { (n ≤ maxVariables) × (length row.now ≡ n) × (at + length (settingsText (variablesIn file.now variables.now n) row.now) ≤ length room.old) }
-    ensures { Put (settingsText (variablesIn file.now variables.now n) row.now) room.old at result room.new }
+    requires { (n ≤ max_variables) × (length row.now ≡ n) × (at + length (settings_text (variables_in file.now variables.now n) row.now) ≤ length room.old) }
+    ensures { Put (settings_text (variables_in file.now variables.now n) row.now) room.old at result room.new }
 {
     let mut i = 0;
     let mut end = at;
@@ -60,8 +60,8 @@ fn settings_length(
     n: usize,
     row: &[u64],
 ) -> usize
-    requires { (length file.now ≤ maxFileBytes) × (n ≤ maxVariables) × (length row.now ≡ n) }
-    ensures { (result ≡ length (settingsText (variablesIn file.now variables.now n) row.now)) × (result ≤ maxSettingsLength) }
+    requires { (length file.now ≤ max_file_bytes) × (n ≤ max_variables) × (length row.now ≡ n) }
+    ensures { (result ≡ length (settings_text (variables_in file.now variables.now n) row.now)) × (result ≤ max_settings_length) }
 {
     let mut i = 0;
     let mut length = 0;
@@ -81,8 +81,8 @@ fn put_values(
     room: &mut [u8],
     at: usize,
 ) -> usize
-    requires { (n ≤ maxVariables) × (length row.now ≡ n) × (at + length (valuesLine (variablesIn file.now variables.now n) row.now) ≤ length room.old) }
-    ensures { Put (valuesLine (variablesIn file.now variables.now n) row.now) room.old at result room.new }
+    requires { (n ≤ max_variables) × (length row.now ≡ n) × (at + length (values_line (variables_in file.now variables.now n) row.now) ≤ length room.old) }
+    ensures { Put (values_line (variables_in file.now variables.now n) row.now) room.old at result room.new }
 {
     if n == 0 {
         return at;
@@ -100,8 +100,8 @@ pub(crate) fn put_answer(
     row: &[u64],
     room: &mut [u8],
 ) -> usize
-    requires { (n ≤ maxVariables) × (length row.now ≡ n) × (length (answerText (variablesIn file.now variables.now n) row.now) ≤ length room.old) }
-    ensures { Put (answerText (variablesIn file.now variables.now n) row.now) room.old 0 result room.new }
+    requires { (n ≤ max_variables) × (length row.now ≡ n) × (length (answer_text (variables_in file.now variables.now n) row.now) ≤ length room.old) }
+    ensures { Put (answer_text (variables_in file.now variables.now n) row.now) room.old 0 result room.new }
 {
     let word = put_bytes(b"s ", room, 0);
     let end = put_bytes(&satisfiable(), room, word);
@@ -120,8 +120,8 @@ pub(crate) fn answer_length(
     n: usize,
     row: &[u64],
 ) -> usize
-    requires { (length file.now ≤ maxFileBytes) × (n ≤ maxVariables) × (length row.now ≡ n) }
-    ensures { result ≡ length (answerText (variablesIn file.now variables.now n) row.now) }
+    requires { (length file.now ≤ max_file_bytes) × (n ≤ max_variables) × (length row.now ≡ n) }
+    ensures { result ≡ length (answer_text (variables_in file.now variables.now n) row.now) }
 {
     if n == 0 {
         return SOLUTION_LINE;

@@ -1,13 +1,13 @@
 // Answer files: writing the values of a lent table, where they satisfy the constraint file.
 ghost use Rattle.std.specs.Prelude.{◌≡◌, List, ℕ, ◌≤◌, ◌<◌, length};
-ghost use Rattle.edition.specs.Edition.{maxVariables, maxLines, maxFileBytes};
+ghost use Rattle.edition.specs.Edition.{max_variables, max_lines, max_file_bytes};
 ghost use Rattle.constraint.specs.File.{Variable};
-ghost use Rattle.store.specs.Tables.{tableHeads, tableBodies, linesIn, variablesIn, AllHeadsFit};
-ghost use Rattle.judge.specs.Judge.{verdictsOf, overallOf};
+ghost use Rattle.store.specs.Tables.{table_heads, table_bodies, lines_in, variables_in, AllHeadsFit};
+ghost use Rattle.judge.specs.Judge.{verdicts_of, overall_of};
 ghost use Rattle.judge.specs.Fitting.{Judgeable};
 ghost use Rattle.printing.specs.Output.{room_for, written};
-ghost use Rattle.writer.specs.Write.{isSatisfied, writeOutcome};
-ghost use Rattle.writer.specs.Text.{answerText};
+ghost use Rattle.writer.specs.Write.{is_satisfied, write_outcome};
+ghost use Rattle.writer.specs.Text.{answer_text};
 
 use answers::{answer_length, put_answer};
 use edition::Edition;
@@ -31,8 +31,8 @@ fn satisfies<'a>(
     m: usize,
     row: &[u64],
 ) -> bool
-    requires { (m ≤ maxLines) × (length heads.now ≡ tableHeads) × (length bodies.now ≡ tableBodies) × ((k : ℕ) → k < m → Judgeable row.now heads.now bodies.now k) }
-    ensures { (xs : List Variable) → AllHeadsFit xs heads.now bodies.now m → result ≡ isSatisfied (overallOf (verdictsOf xs row.now (linesIn heads.now bodies.now m))) }
+    requires { (m ≤ max_lines) × (length heads.now ≡ table_heads) × (length bodies.now ≡ table_bodies) × ((k : ℕ) → k < m → Judgeable row.now heads.now bodies.now k) }
+    ensures { (xs : List Variable) → AllHeadsFit xs heads.now bodies.now m → result ≡ is_satisfied (overall_of (verdicts_of xs row.now (lines_in heads.now bodies.now m))) }
 {
     let mut k = 0;
     while k < m {
@@ -54,8 +54,8 @@ fn write_row(
     row: &[u64],
     output: &mut [u8],
 ) -> WriteReply
-    requires { (length file.now ≤ maxFileBytes) × (n ≤ maxVariables) × (length row.now ≡ n) }
-    ensures { record { reply = result; output = output.new } ≡ written output.old (room_for (answerText (variablesIn file.now variables.now n) row.now) (length output.old)) }
+    requires { (length file.now ≤ max_file_bytes) × (n ≤ max_variables) × (length row.now ≡ n) }
+    ensures { record { reply = result; output = output.new } ≡ written output.old (room_for (answer_text (variables_in file.now variables.now n) row.now) (length output.old)) }
 {
     let length = answer_length(file, variables, n, row);
     if output.len() < length {
@@ -67,7 +67,7 @@ fn write_row(
 
 // Writes the answer with the values in use of a lent table, any numbers, to a constraint file, any bytes.
 pub fn write(constraint: &[u8], values: &[u64], output: &mut [u8]) -> WriteReply
-    ensures { record { reply = result; output = output.new } ≡ writeOutcome constraint.now values.now output.old }
+    ensures { record { reply = result; output = output.new } ≡ write_outcome constraint.now values.now output.old }
 {
     let mut variables = [0u64; Edition::VARIABLES];
     let mut heads = [0u8; TABLE_HEADS];

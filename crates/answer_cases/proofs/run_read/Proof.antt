@@ -36,8 +36,8 @@ read-case-requires c κs = search rules
 returns-4 : tie.Need-returns-4
 returns-4 c = search rules
 
-pub run-read-spec : {M : Type 1} → statement M
-run-read-spec =
+pub run_read_spec : {M : Type 1} → statement M
+run_read_spec =
     tie.close
     (tie.spec
     returns

@@ -45,8 +45,8 @@ write-case-requires c κs = search rules
 returns-4 : tie.Need-returns-4
 returns-4 c = search rules
 
-pub run-write-spec : {M : Type 1} → statement M
-run-write-spec =
+pub run_write_spec : {M : Type 1} → statement M
+run_write_spec =
     tie.close
     (tie.spec
     returns

@@ -21,5 +21,5 @@ returns c = search rules
 returns-2 : tie.Need-returns-2
 returns-2 c = search rules
 
-pub run-case-spec : {M : Type 1} → statement M
-run-case-spec = tie.close (tie.spec next-case-requires enum-known-sizes run-requires enum_told returns returns-2)
+pub run_case_spec : {M : Type 1} → statement M
+run_case_spec = tie.close (tie.spec next-case-requires enum-known-sizes run-requires enum_told returns returns-2)

@@ -42,8 +42,8 @@ same-length-5 c = search rules
 returns-3 : tie.Need-returns-3
 returns-3 c = search rules
 
-pub clean-case-spec : {M : Type 1} → statement M
-clean-case-spec =
+pub clean_case_spec : {M : Type 1} → statement M
+clean_case_spec =
     tie.close
     (tie.spec
     next-bytes-requires

@@ -18,8 +18,8 @@ print-cleaned-requires c κs = search rules
 returns-2 : tie.Need-returns-2
 returns-2 c = search rules
 
-pub print-again-spec : {M : Type 1} → statement M
-print-again-spec =
+pub print_again_spec : {M : Type 1} → statement M
+print_again_spec =
     tie.close
     (tie.spec
     returns

@@ -51,8 +51,8 @@ clean-case-requires c κs = search rules
 returns-4 : tie.Need-returns-4
 returns-4 c = search rules
 
-pub run-case-spec : {M : Type 1} → statement M
-run-case-spec =
+pub run_case_spec : {M : Type 1} → statement M
+run_case_spec =
     tie.close
     (tie.spec
     slice-aggregate-next-bytes

@@ -22,7 +22,7 @@ run-file-requires c κs = search rules
 returns-2 : tie.Need-returns-2
 returns-2 c = search rules
 
-pub run-case-spec : {M : Type 1} → statement M
-run-case-spec =
+pub run_case_spec : {M : Type 1} → statement M
+run_case_spec =
     tie.close
     (tie.spec next-length-requires returns array-borrow-prefix-room slice-aggregate-run-file run-file-requires returns-2)

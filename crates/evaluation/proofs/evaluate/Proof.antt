@@ -1,7 +1,7 @@
 use Rattle.std.proofs.Common.{ap, arith, rules, eq-eqb, ne_eqb}
 use Rattle.evaluation.specs.declared.Evaluated.TheVariants.{Value}
 use Rattle.arithmetic.specs.Meaning.{value_of}
-use Rattle.arithmetic.proofs.PlaceLaws.{inverted-lt}
+use Rattle.arithmetic.proofs.PlaceLaws.{inverted_lt}
 use Rattle.evaluation.proofs.evaluate.Statement.{statement}
 use Rattle.evaluation.proofs.evaluate.Tie as tie
 
@@ -29,7 +29,7 @@ combine-requires-2 : tie.Need-combine-requires-2
 combine-requires-2 c κs =
     let s = c.before.before.before in
     let g = rw c.before.enum-told2.given.1 at s.requires in
-    record { least = g.least; most = g.most; bound = rw c.invert2.ensures (inverted-lt s.args.k s.args.a.value g.bound); bound₂ = g.bound₂ }
+    record { least = g.least; most = g.most; bound = rw c.invert2.ensures (inverted_lt s.args.k s.args.a.value g.bound); bound₂ = g.bound₂ }
 
 enum-known-op-2 : tie.Need-enum-known-op-2
 enum-known-op-2 c = search rules
@@ -151,8 +151,8 @@ returns-13 c =
     let g = rw c.before.enum-told6.given.1 at c.before.before.before.requires in
     rw (c.before.enum-told6.given.1, ← g.span) (ap Value c.low2.ensures)
 
-pub evaluate-spec : {M : Type 1} → statement M
-evaluate-spec =
+pub evaluate_spec : {M : Type 1} → statement M
+evaluate_spec =
     tie.close
     (tie.spec
     enum-known-op

@@ -3,12 +3,12 @@ use mathlib.Core.Path.{◌≡◌, refl}
 use mathlib.Core.List.{List}
 use borrow.Author.Rules.{rules}
 use Rattle.refusal.specs.Result.{accepted}
-use Rattle.constraint.specs.Read.{readFile}
+use Rattle.constraint.specs.Read.{read_file}
 use Rattle.store.specs.declared.Progress.{Progress}
 use Rattle.store.specs.Tables.{Store, store_of}
-use Rattle.store.specs.Progress.{storedFile, InTables}
-use Rattle.store.proofs.LookupLaws.{variables-length}
-use Rattle.store.proofs.SearchLaws.{searchable-none}
+use Rattle.store.specs.Progress.{stored_file, InTables}
+use Rattle.store.proofs.LookupLaws.{variables_length}
+use Rattle.store.proofs.SearchLaws.{searchable_none}
 use Rattle.index.specs.Index.{indexing}
 use Rattle.index.proofs.index.Statement.{statement}
 use Rattle.index.proofs.index.Tie as tie
@@ -23,14 +23,14 @@ tables c = let l = c.before.before.read.new.1 in store_of l.0 l.1.0 l.1.1.0
 abbrev progress : tie.After-p → Progress
 progress c = c.p.given.0.0
 
-file-read : (c : tie.After-p) → accepted (storedFile (bytes c) (tables c) (progress c)) ≡ readFile (bytes c)
-file-read c = rw c.p.given.1 at c.before.before.read.ensures.0
+file_read : (c : tie.After-p) → accepted (stored_file (bytes c) (tables c) (progress c)) ≡ read_file (bytes c)
+file_read c = rw c.p.given.1 at c.before.before.read.ensures.0
 
 in_tables : (c : tie.After-p) → InTables (progress c)
 in_tables c = rw c.p.given.1 at c.before.before.read.ensures.2
 
 read-requires : tie.Need-read-requires
-read-requires c κs = (search rules, searchable-none _)
+read-requires c κs = (search rules, searchable_none _)
 
 enum-known-r : tie.Need-enum-known-r
 enum-known-r c = search rules
@@ -58,10 +58,10 @@ returns-2 : tie.Need-returns-2
 unfolding indexing
 returns-2 c =
     let t = c.before.before.before.before.before.before.before.before.before.before in
-    rw (← (file-read t)) (c.before.before.before.before.index-held.ensures (storedFile (bytes t) (tables t) (progress t)) (variables-length (bytes t) (tables t).variables (progress t).variables) refl)
+    rw (← (file_read t)) (c.before.before.before.before.index-held.ensures (stored_file (bytes t) (tables t) (progress t)) (variables_length (bytes t) (tables t).variables (progress t).variables) refl)
 
-pub index-spec : {M : Type 1} → statement M
-index-spec =
+pub index_spec : {M : Type 1} → statement M
+index_spec =
     tie.close
     (tie.spec
     read-requires

@@ -1,30 +1,30 @@
 -- `apply` meets its contract: the first test that fails refuses, and operands that pass all are evaluated.
 use mathlib.Core.Path.{◌≡◌, sym, ap, ◌∙◌}
 use mathlib.Core.Bool.{true}
-use Rattle.arithmetic.specs.Rules.{widthsHold, typed, operandsFit}
+use Rattle.arithmetic.specs.Rules.{widths_hold, typed, operands_fit}
 use Rattle.refusal.proofs.BoolLaws.{passed, failed}
 use Rattle.arithmetic.proofs.RuleLaws.{evaluable}
-use Rattle.operator.specs.Apply.{applyOutcome}
-use Rattle.operator.proofs.ApplyLaws.{passedOn, no-width, rule-broken, too_large, taken}
+use Rattle.operator.specs.Apply.{apply_outcome}
+use Rattle.operator.proofs.ApplyLaws.{passed_on, no_width, rule_broken, too_large, taken}
 use borrow.Author.Rules.{rules}
 use Rattle.operator.proofs.apply.Statement.{statement}
 use Rattle.operator.proofs.apply.Tie as tie
 
 -- the tests that were passed
-has-widths : (x : tie.Else1) → let s = x.before.before.args in widthsHold s.op s.k s.a s.b s.c ≡ true
-has-widths x = passed x.before.widths-hold.ensures x.if1.false
+has-widths : (x : tie.Else1) → let s = x.before.before.args in widths_hold s.op s.k s.a s.b s.c ≡ true
+has-widths x = passed x.before.widths_hold_lem.ensures x.if1.false
 
 is-typed : (x : tie.Else2) → let s = x.before.before.before.before.args in typed s.op s.k s.a s.b s.c ≡ true
 is-typed x = passed x.before.type-inv.ensures x.if2.false
 
-has-values : (x : tie.Else3) → let s = x.before.before.before.before.before.before.args in operandsFit s.op s.a s.b s.c ≡ true
+has-values : (x : tie.Else3) → let s = x.before.before.before.before.before.before.args in operands_fit s.op s.a s.b s.c ≡ true
 has-values x = passed x.before.operands-fit.ensures x.if3.false
 
 -- what `evaluate` answers, passed on
-passed_on : (x : tie.After-evaluate) → let s = x.before.before.before.before.before.before.before.args in passedOn x.evaluate.result ≡ applyOutcome s.op s.k s.a s.b s.c
+passed_on : (x : tie.After-evaluate) → let s = x.before.before.before.before.before.before.before.args in passed_on x.evaluate.result ≡ apply_outcome s.op s.k s.a s.b s.c
 passed_on x =
     let s = x.before.before.before.before.before.before.before.args in
-    ap passedOn x.evaluate.ensures ∙ taken s.op s.k s.a s.b s.c (has-widths x.before.before.before.before.before) (is-typed x.before.before.before) (has-values x.before)
+    ap passed_on x.evaluate.ensures ∙ taken s.op s.k s.a s.b s.c (has-widths x.before.before.before.before.before) (is-typed x.before.before.before) (has-values x.before)
 
 widths-hold-requires : tie.Need-widths-hold-requires
 widths-hold-requires c κs = search rules
@@ -35,7 +35,7 @@ refused-requires c κs = search rules
 returns : tie.Need-returns
 returns c =
     let s = c.before.before.before.args in
-    c.refused.ensures ∙ no-width s.op s.k s.a s.b s.c (failed c.before.before.widths-hold.ensures c.before.if1.true)
+    c.refused.ensures ∙ no_width s.op s.k s.a s.b s.c (failed c.before.before.widths_hold_lem.ensures c.before.if1.true)
 
 typed-requires : tie.Need-typed-requires
 typed-requires c κs = search rules
@@ -46,7 +46,7 @@ refused-requires-2 c κs = search rules
 returns-2 : tie.Need-returns-2
 returns-2 c =
     let s = c.before.before.before.before.before.args in
-    c.refused2.ensures ∙ rule-broken s.op s.k s.a s.b s.c (has-widths c.before.before.before) (failed c.before.before.type-inv.ensures c.before.if2.true)
+    c.refused2.ensures ∙ rule_broken s.op s.k s.a s.b s.c (has-widths c.before.before.before) (failed c.before.before.type-inv.ensures c.before.if2.true)
 
 operands-fit-requires : tie.Need-operands-fit-requires
 operands-fit-requires c κs = search rules
@@ -71,13 +71,13 @@ enum_told : tie.Need-enum-told
 enum_told c = search rules
 
 returns-4 : tie.Need-returns-4
-returns-4 c = sym (ap passedOn c.before.result.given.1) ∙ passed_on c.before.before.before
+returns-4 c = sym (ap passed_on c.before.result.given.1) ∙ passed_on c.before.before.before
 
 returns-5 : tie.Need-returns-5
-returns-5 c = sym (ap passedOn c.enum_told.given.1) ∙ passed_on c.before.before
+returns-5 c = sym (ap passed_on c.enum_told.given.1) ∙ passed_on c.before.before
 
-pub apply-spec : {M : Type 1} → statement M
-apply-spec =
+pub apply_spec : {M : Type 1} → statement M
+apply_spec =
     tie.close
     (tie.spec
     widths-hold-requires

@@ -1,6 +1,6 @@
 -- `digit_count` meets its contract, by recursion on the value: it without its last digit, and that digit.
 use native.Mathlib.Omega.{arith}
-use Rattle.printing.proofs.DigitLaws.{digits-count, count-one, count-step}
+use Rattle.printing.proofs.DigitLaws.{digits_count, count_one, count_step}
 use Prim.Native.Nat.{ℕ, ◌/◌, ◌<◌}
 use borrow.Fn.Kinds.{In}
 use borrow.Fn.PlainCycle.{Measures, is, falls, and}
@@ -25,7 +25,7 @@ digit-count-returns : (t : ℕ) → digit-count-lts.Need-returns (
   digit-count-below t,
   digit-count.Post,
 ) (digit-count-at t) digit-count.Post
-digit-count-returns t c = count-one _ c.if1.true
+digit-count-returns t c = count_one _ c.if1.true
 
 digit-count-digit-count-requires : (t : ℕ) → digit-count-lts.Need-digit-count-requires (
   digit-count-below t,
@@ -37,7 +37,7 @@ digit-count-add-result : (t : ℕ) → digit-count-lts.Need-overflow-add-result 
   digit-count-below t,
   digit-count.Post,
 ) (digit-count-at t) digit-count.Post
-digit-count-add-result t c = omega (arith, digits-count (c.before.before.args.v / 10))
+digit-count-add-result t c = omega (arith, digits_count (c.before.before.args.v / 10))
 
 digit-count-returns-2 : (t : ℕ) → digit-count-lts.Need-returns-2 (
   digit-count-below t,
@@ -45,10 +45,10 @@ digit-count-returns-2 : (t : ℕ) → digit-count-lts.Need-returns-2 (
 ) (digit-count-at t) digit-count.Post
 digit-count-returns-2 t c =
     let s = c.before.before in
-    omega (arith, count-step s.args.v s.ranges.v.fits c.before.if1.false)
+    omega (arith, count_step s.args.v s.ranges.v.fits c.before.if1.false)
 
-pub +digit-count-spec : {M : Type 1} → statement M
-+digit-count-spec = close μ-digit-count λ t. digit-count-lts.spec (
+pub +digit_count_spec : {M : Type 1} → statement M
++digit_count_spec = close μ-digit-count λ t. digit-count-lts.spec (
   digit-count-below t,
   digit-count.Post,
 )

@@ -1,7 +1,7 @@
 -- `put_digits` meets its contract, by recursion on the value: it without its last digit, and that digit.
 use native.Mathlib.Omega.{arith}
 use borrow.Author.Rules.{rules}
-use Rattle.printing.proofs.DigitLaws.{count-one, count-step, put-one-digit, put-last-digit}
+use Rattle.printing.proofs.DigitLaws.{count_one, count_step, put_one_digit, put_last_digit}
 use Prim.Native.Nat.{ℕ, ◌<◌}
 use borrow.Fn.Kinds.{In}
 use borrow.Fn.PlainCycle.{Measures, is, falls, and}
@@ -47,7 +47,7 @@ put-digits-put-byte-requires : (t : ℕ) → put-digits-lts.Need-put-byte-requir
 ) (put-digits-at t) put-digits.Post
 put-digits-put-byte-requires t c κs =
     let s = c.before.before.before in
-    omega (arith, count-one s.args.v c.before.if1.true)
+    omega (arith, count_one s.args.v c.before.if1.true)
 
 put-digits-same-length : (t : ℕ) → put-digits-lts.Need-same-length (
   put-byte-reads.Asked,
@@ -63,7 +63,7 @@ put-digits-returns : (t : ℕ) → put-digits-lts.Need-returns (
   put-digits-below t,
   put-digits.Post,
 ) (put-digits-at t) put-digits.Post
-put-digits-returns t c = put-one-digit _ c.before.before.before.before.if1.true c.before.before.put_byte.ensures
+put-digits-returns t c = put_one_digit _ c.before.before.before.before.if1.true c.before.before.put_byte.ensures
 
 put-digits-put-digits-requires : (t : ℕ) → put-digits-lts.Need-put-digits-requires (
   put-byte-reads.Asked,
@@ -73,7 +73,7 @@ put-digits-put-digits-requires : (t : ℕ) → put-digits-lts.Need-put-digits-re
 ) (put-digits-at t) put-digits.Post
 put-digits-put-digits-requires t c κs =
     let s = c.before.before.before in
-    (omega arith, omega (arith, count-step s.args.v s.ranges.v.fits c.before.if1.false))
+    (omega arith, omega (arith, count_step s.args.v s.ranges.v.fits c.before.if1.false))
 
 put-digits-cast-put-byte-2 : (t : ℕ) → put-digits-lts.Need-overflow-cast-put-byte-2 (
   put-byte-reads.Asked,
@@ -99,7 +99,7 @@ put-digits-put-byte-requires-2 : (t : ℕ) → put-digits-lts.Need-put-byte-requ
 ) (put-digits-at t) put-digits.Post
 put-digits-put-byte-requires-2 t c κs =
     let s = c.before.before.before.before.before.before.before in
-    omega (arith, count-step s.args.v s.ranges.v.fits c.before.before.before.before.before.if1.false)
+    omega (arith, count_step s.args.v s.ranges.v.fits c.before.before.before.before.before.if1.false)
 
 put-digits-same-length-2 : (t : ℕ) → put-digits-lts.Need-same-length-2 (
   put-byte-reads.Asked,
@@ -117,10 +117,10 @@ put-digits-returns-2 : (t : ℕ) → put-digits-lts.Need-returns-2 (
 ) (put-digits-at t) put-digits.Post
 put-digits-returns-2 t c =
     let s = c.before.before.before.before.before.before.before.before.before.before in
-    put-last-digit s.args.v s.ranges.v.fits c.before.before.before.before.before.before.before.before.if1.false s.requires.1 c.before.before.before.before.before.before.put-digits.ensures c.before.before.put-byte2.ensures
+    put_last_digit s.args.v s.ranges.v.fits c.before.before.before.before.before.before.before.before.if1.false s.requires.1 c.before.before.before.before.before.before.put-digits.ensures c.before.before.put-byte2.ensures
 
-pub +put-digits-spec : {M : Type 1} → statement M
-+put-digits-spec = close μ-put-digits λ t. put-digits-lts.spec (
+pub +put_digits_spec : {M : Type 1} → statement M
++put_digits_spec = close μ-put-digits λ t. put-digits-lts.spec (
   put-byte-reads.Asked,
   put-byte-reads.Learnt,
   put-digits-below t,

@@ -2,7 +2,7 @@ use Prim.Native.Nat.{◌+◌, ◌/◌}
 use native.Mathlib.Omega.{arith}
 use lib.ListN.{length-set}
 use borrow.Author.Rules.{rules}
-use Rattle.printing.proofs.DigitLaws.{put-two-digits}
+use Rattle.printing.proofs.DigitLaws.{put_two_digits}
 use Rattle.printing.proofs.put_below_hundred.Statement.{statement}
 use Rattle.printing.proofs.put_below_hundred.Tie as tie
 
@@ -39,10 +39,10 @@ same_length : tie.Need-same-length
 same_length c = search rules
 
 returns : tie.Need-returns
-returns c = put-two-digits _ c.before.before.requires.0 _ _ c.before.before.requires.1 _ c.tens-count.ensures
+returns c = put_two_digits _ c.before.before.requires.0 _ _ c.before.before.requires.1 _ c.tens-count.ensures
 
-pub put-below-hundred-spec : {M : Type 1} → statement M
-put-below-hundred-spec =
+pub put_below_hundred_spec : {M : Type 1} → statement M
+put_below_hundred_spec =
     tie.close
     (tie.spec
     tens-count-requires

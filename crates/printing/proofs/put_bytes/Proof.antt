@@ -3,7 +3,7 @@ use Prim.Native.Nat.{◌-◌}
 use native.Mathlib.Omega.{arith}
 use lib.ListN.{length}
 use borrow.Author.Rules.{rules}
-use Rattle.printing.proofs.PlaceLaws.{Copying, copying-starts, copying-more, copying-done}
+use Rattle.printing.proofs.PlaceLaws.{Copying, copying_starts, copying_more, copying_done}
 use Rattle.printing.proofs.put_bytes.Statement.{statement}
 use Rattle.printing.proofs.put_bytes.Tie as tie
 
@@ -14,7 +14,7 @@ abbrev decreases-loop : tie.decreases-loop
 decreases-loop bytes room₀ at i₀ room i = length bytes - i
 
 loop-holds : tie.Need-loop-init invariant-loop decreases-loop
-loop-holds c = copying-starts _ _ _
+loop-holds c = copying_starts _ _ _
 
 shared-slice-read-room : tie.Need-shared-slice-read-room invariant-loop decreases-loop
 shared-slice-read-room c = search rules
@@ -32,7 +32,7 @@ loop-less : tie.Need-loop-smaller invariant-loop decreases-loop
 loop-less c = search rules
 
 loop-again : tie.Need-loop-preserved invariant-loop decreases-loop
-loop-again c = copying-more c.before.before.loop.invariant c.before.before.before.requires c.before.loop-test.true
+loop-again c = copying_more c.before.before.loop.invariant c.before.before.before.requires c.before.loop-test.true
 
 add-result : tie.Need-overflow-add-result invariant-loop decreases-loop
 add-result c = search rules
@@ -41,10 +41,10 @@ same_length : tie.Need-same-length invariant-loop decreases-loop
 same_length c = c.before.loop.invariant.whole
 
 returns : tie.Need-returns invariant-loop decreases-loop
-returns c = copying-done c.before.loop.invariant c.loop-test.false
+returns c = copying_done c.before.loop.invariant c.loop-test.false
 
-pub put-bytes-spec : {M : Type 1} → statement M
-put-bytes-spec =
+pub put_bytes_spec : {M : Type 1} → statement M
+put_bytes_spec =
     tie.close
     (tie.spec
     invariant-loop

@@ -1,6 +1,6 @@
 use native.Mathlib.Omega.{arith}
 use borrow.Author.Rules.{rules}
-use Rattle.printing.proofs.DigitLaws.{count-one, put-one-digit}
+use Rattle.printing.proofs.DigitLaws.{count_one, put_one_digit}
 use Rattle.printing.proofs.put_number.Statement.{statement}
 use Rattle.printing.proofs.put_number.Tie as tie
 
@@ -11,13 +11,13 @@ add-put-byte : tie.Need-overflow-add-put-byte
 add-put-byte c = search rules
 
 put-byte-requires : tie.Need-put-byte-requires
-put-byte-requires c κs = omega (arith, count-one c.before.before.before.args.v c.before.if1.true)
+put-byte-requires c κs = omega (arith, count_one c.before.before.before.args.v c.before.if1.true)
 
 same_length : tie.Need-same-length
 same_length c = search rules
 
 returns : tie.Need-returns
-returns c = put-one-digit _ c.before.before.before.before.if1.true c.before.before.put_byte.ensures
+returns c = put_one_digit _ c.before.before.before.before.if1.true c.before.before.put_byte.ensures
 
 put-digits-requires : tie.Need-put-digits-requires
 put-digits-requires c κs = search rules
@@ -28,8 +28,8 @@ same-length-2 c = search rules
 returns-2 : tie.Need-returns-2
 returns-2 c = search rules
 
-pub put-number-spec : {M : Type 1} → statement M
-put-number-spec =
+pub put_number_spec : {M : Type 1} → statement M
+put_number_spec =
     tie.close
     (tie.spec
     cast-put-byte

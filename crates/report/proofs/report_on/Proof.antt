@@ -11,5 +11,5 @@ write-report-requires c κs = search rules
 returns : tie.Need-returns
 returns c = rw c.before.before.report.ensures at c.write-report.ensures
 
-pub report-on-spec : {M : Type 1} → statement M
-report-on-spec = tie.close (tie.spec report-requires write-report-requires returns)
+pub report_on_spec : {M : Type 1} → statement M
+report_on_spec = tie.close (tie.spec report-requires write-report-requires returns)

@@ -41,8 +41,8 @@ same_length c = search rules
 returns : tie.Need-returns invariant-loop decreases-loop
 returns c = tt
 
-pub fill-down-spec : {M : Type 1} → statement M
-fill-down-spec =
+pub fill_down_spec : {M : Type 1} → statement M
+fill_down_spec =
     tie.close
     (tie.spec
     invariant-loop

@@ -4,14 +4,14 @@ use Prim.Native.Nat.{◌-◌}
 use mathlib.Core.Path.{◌≡◌, refl, sym, ◌∙◌}
 use native.Mathlib.Omega.{arith}
 use lib.ListN.{take, drop}
-use Rattle.reporting.specs.Hex.{hexAfter}
-use Rattle.reporting.proofs.HexLaws.{appended, hex-turn, hex-end}
+use Rattle.reporting.specs.Hex.{hex_after}
+use Rattle.reporting.proofs.HexLaws.{appended, hex_turn, hex_end}
 use Rattle.reporting.proofs.hex.Statement.{statement}
 use Rattle.reporting.proofs.hex.Tie as tie
 
 abbrev invariant-loop : tie.invariant-loop
 invariant-loop text at end value₀ i₀ value i =
-    hexAfter value (take (end - i) (drop i text)) ≡ hexAfter 0 (take (end - at) (drop at text))
+    hex_after value (take (end - i) (drop i text)) ≡ hex_after 0 (take (end - at) (drop at text))
 
 abbrev decreases-loop : tie.decreases-loop
 decreases-loop text at end value₀ i₀ value i = end - i
@@ -37,16 +37,16 @@ loop-again c =
     let l = c.before.before.before.loop in
     let d = c.digit.ensures in
     rw (appended l.value c.digit.result d.1, d.0)
-    (sym (hex-turn a.text.now l.value l.i a.end (omega arith) (omega arith)) ∙ l.invariant)
+    (sym (hex_turn a.text.now l.value l.i a.end (omega arith) (omega arith)) ∙ l.invariant)
 
 returns : tie.Need-returns invariant-loop decreases-loop
 returns c =
     let a = c.before.before.before.args in
     let l = c.before.loop in
-    sym (hex-end a.text.now l.value l.i a.end (omega arith)) ∙ l.invariant
+    sym (hex_end a.text.now l.value l.i a.end (omega arith)) ∙ l.invariant
 
-pub hex-spec : {M : Type 1} → statement M
-hex-spec =
+pub hex_spec : {M : Type 1} → statement M
+hex_spec =
     tie.close
     (tie.spec
     invariant-loop

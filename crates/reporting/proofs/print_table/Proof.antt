@@ -47,8 +47,8 @@ write-all-requires-2 c κs = search rules
 returns : tie.Need-returns invariant-loop decreases-loop
 returns c = tt
 
-pub print-table-spec : {M : Type 1} → statement M
-print-table-spec =
+pub print_table_spec : {M : Type 1} → statement M
+print_table_spec =
     tie.close
     (tie.spec
     invariant-loop

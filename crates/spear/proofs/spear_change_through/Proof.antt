@@ -1,5 +1,5 @@
 use mathlib.Core.Path.{ap}
-use Rattle.spear.specs.Pack.{packedChange}
+use Rattle.spear.specs.Pack.{packed_change}
 use borrow.Author.Rules.{rules}
 use Rattle.spear.proofs.spear_change_through.Statement.{statement}
 use Rattle.spear.proofs.spear_change_through.Tie as tie
@@ -20,8 +20,8 @@ same-length-3 : tie.Need-same-length-3
 same-length-3 c = search rules
 
 returns : tie.Need-returns
-returns c = rw c.pack-change.ensures (ap packedChange c.before.before.before.before.before.before.before.change-through.ensures)
+returns c = rw c.pack-change.ensures (ap packed_change c.before.before.before.before.before.before.before.change-through.ensures)
 
-pub spear-change-through-spec : {M : Type 1} → statement M
-spear-change-through-spec =
+pub spear_change_through_spec : {M : Type 1} → statement M
+spear_change_through_spec =
     tie.close (tie.spec change-through-requires pack-change-requires same_length same-length-2 same-length-3 returns)

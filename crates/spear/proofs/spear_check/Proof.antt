@@ -13,5 +13,5 @@ code-of-requires c κs = search rules
 returns : tie.Need-returns
 returns c = c.code_of_lem.ensures ∙ ap code_of c.before.report.ensures
 
-pub spear-check-spec : {M : Type 1} → statement M
-spear-check-spec = tie.close (tie.spec report-requires code-of-requires returns)
+pub spear_check_spec : {M : Type 1} → statement M
+spear_check_spec = tie.close (tie.spec report-requires code-of-requires returns)

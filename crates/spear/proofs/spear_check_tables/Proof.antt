@@ -1,5 +1,5 @@
 use mathlib.Core.Path.{ap}
-use Rattle.spear.specs.Pack.{packedCheck}
+use Rattle.spear.specs.Pack.{packed_check}
 use borrow.Author.Rules.{rules}
 use Rattle.spear.proofs.spear_check_tables.Statement.{statement}
 use Rattle.spear.proofs.spear_check_tables.Tie as tie
@@ -20,8 +20,8 @@ same-length-3 : tie.Need-same-length-3
 same-length-3 c = search rules
 
 returns : tie.Need-returns
-returns c = rw c.pack-check.ensures (ap packedCheck c.before.before.before.before.before.before.before.check.ensures)
+returns c = rw c.pack-check.ensures (ap packed_check c.before.before.before.before.before.before.before.check.ensures)
 
-pub spear-check-tables-spec : {M : Type 1} → statement M
-spear-check-tables-spec =
+pub spear_check_tables_spec : {M : Type 1} → statement M
+spear_check_tables_spec =
     tie.close (tie.spec check-requires pack-check-requires same_length same-length-2 same-length-3 returns)

@@ -1,6 +1,6 @@
 use mathlib.Core.Path.{ap}
 use borrow.Author.Rules.{rules}
-use Rattle.spear.specs.Pack.{packedWrite}
+use Rattle.spear.specs.Pack.{packed_write}
 use Rattle.spear.proofs.spear_clean.Statement.{statement}
 use Rattle.spear.proofs.spear_clean.Tie as tie
 
@@ -14,7 +14,7 @@ same_length : tie.Need-same-length
 same_length c = search rules
 
 returns : tie.Need-returns
-returns c = rw c.pack-write.ensures (ap packedWrite c.before.before.before.clean.ensures)
+returns c = rw c.pack-write.ensures (ap packed_write c.before.before.before.clean.ensures)
 
-pub spear-clean-spec : {M : Type 1} → statement M
-spear-clean-spec = tie.close (tie.spec clean-requires pack-write-requires same_length returns)
+pub spear_clean_spec : {M : Type 1} → statement M
+spear_clean_spec = tie.close (tie.spec clean-requires pack-write-requires same_length returns)

@@ -1,6 +1,6 @@
 use mathlib.Core.Path.{ap}
 use borrow.Author.Rules.{rules}
-use Rattle.spear.specs.Pack.{packedWrite}
+use Rattle.spear.specs.Pack.{packed_write}
 use Rattle.spear.proofs.spear_write.Statement.{statement}
 use Rattle.spear.proofs.spear_write.Tie as tie
 
@@ -14,7 +14,7 @@ same_length : tie.Need-same-length
 same_length c = search rules
 
 returns : tie.Need-returns
-returns c = rw c.pack-write.ensures (ap packedWrite c.before.before.before.write.ensures)
+returns c = rw c.pack-write.ensures (ap packed_write c.before.before.before.write.ensures)
 
-pub spear-write-spec : {M : Type 1} → statement M
-spear-write-spec = tie.close (tie.spec write-requires pack-write-requires same_length returns)
+pub spear_write_spec : {M : Type 1} → statement M
+spear_write_spec = tie.close (tie.spec write-requires pack-write-requires same_length returns)

@@ -18,6 +18,6 @@ returns c = λ e. rw (← c.before.before.operator-at.ensures e, c.enum_told.giv
 returns-2 : tie.Need-returns-2
 returns-2 c = λ e. rw (← c.before.before.operator-at.ensures e, c.enum-told2.given.1)
 
-pub is-reserved-spec : {M : Type 1} → statement M
-is-reserved-spec =
+pub is_reserved_spec : {M : Type 1} → statement M
+is_reserved_spec =
     tie.close (tie.spec operator-at-requires enum_told enum-told-2 returns returns-2)

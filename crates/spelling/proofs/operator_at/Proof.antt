@@ -1,6 +1,6 @@
 -- `operator_at` meets its contract: one list behind the other.
 use borrow.Author.Rules.{rules}
-use Rattle.spelling.proofs.SpellingLaws.{operator-is}
+use Rattle.spelling.proofs.SpellingLaws.{operator_is}
 use Rattle.spelling.proofs.operator_at.Statement.{statement}
 use Rattle.spelling.proofs.operator_at.Tie as tie
 
@@ -21,10 +21,10 @@ returns c = λ e.
     let g = c.before in
     let p = g.before in
     let b = p.before in
-    operator-is _ e b.bitwise.result p.predicates.result g.arithmetic.result c.shifts-and-casts.result b.bitwise.ensures p.predicates.ensures g.arithmetic.ensures c.shifts-and-casts.ensures
+    operator_is _ e b.bitwise.result p.predicates.result g.arithmetic.result c.shifts-and-casts.result b.bitwise.ensures p.predicates.ensures g.arithmetic.ensures c.shifts-and-casts.ensures
 
-pub operator-at-spec : {M : Type 1} → statement M
-operator-at-spec =
+pub operator_at_spec : {M : Type 1} → statement M
+operator_at_spec =
     tie.close
     (tie.spec
     bitwise-requires

@@ -21,6 +21,6 @@ returns-2 c e = rw (c.before.before.enum_told.given.1, ← c.before.spells.ensur
 returns-3 : tie.Need-returns-3
 returns-3 c e = rw (c.before.before.enum_told.given.1, ← c.before.spells.ensures e, c.if1.false)
 
-pub or-operator-spec : {M : Type 1} → statement M
-or-operator-spec =
+pub or_operator_spec : {M : Type 1} → statement M
+or_operator_spec =
     tie.close (tie.spec enum-known-found enum_told spells-requires returns returns-2 returns-3)

@@ -37,8 +37,8 @@ write-all-requires c κs = search rules
 returns : tie.Need-returns invariant-loop decreases-loop
 returns c = tt
 
-pub print-verdicts-spec : {M : Type 1} → statement M
-print-verdicts-spec =
+pub print_verdicts_spec : {M : Type 1} → statement M
+print_verdicts_spec =
     tie.close
     (tie.spec
     invariant-loop

@@ -7,20 +7,20 @@ use lib.Seq.{length-take-le}
 use borrow.Author.Rules.{rules}
 use Rattle.refusal.specs.Result.{accepted}
 use Rattle.constraint.specs.File.{File}
-use Rattle.constraint.specs.Read.{readFile}
+use Rattle.constraint.specs.Read.{read_file}
 use Rattle.constraint.proofs.SoundLaws.{read_short}
 use Rattle.store.specs.Tables.{place, Store, store_of}
-use Rattle.store.specs.Progress.{storedFile, HeadsInUseFit, InTables}
-use Rattle.store.proofs.LookupLaws.{variables-length}
-use Rattle.store.proofs.SearchLaws.{searchable-none}
-use Rattle.judge.specs.Judge.{freshVerdicts, overallOf}
-use Rattle.judge.specs.InUse.{firstUnfit}
+use Rattle.store.specs.Progress.{stored_file, HeadsInUseFit, InTables}
+use Rattle.store.proofs.LookupLaws.{variables_length}
+use Rattle.store.proofs.SearchLaws.{searchable_none}
+use Rattle.judge.specs.Judge.{fresh_verdicts, overall_of}
+use Rattle.judge.specs.InUse.{first_unfit}
 use Rattle.judge.specs.Claims.{RowFits}
 use Rattle.judge.proofs.FitLaws.{row_fits}
 use Rattle.judge.proofs.HeldLaws.{lines_fit}
 use Rattle.printing.specs.Output.{written}
-use Rattle.writer.specs.Write.{isSatisfied}
-use Rattle.writer.proofs.WritingLaws.{writing-constraint, writing-short, writing-unfit, writing-unsatisfied, writing-text}
+use Rattle.writer.specs.Write.{is_satisfied}
+use Rattle.writer.proofs.WritingLaws.{writing_constraint, writing_short, writing_unfit, writing_unsatisfied, writing_text}
 use Rattle.writer.proofs.write.Statement.{statement}
 use Rattle.writer.proofs.write.Tie as tie
 
@@ -34,22 +34,22 @@ tables c =
     store_of r.new.1.0 r.new.1.1.0 r.new.1.1.1.0
 
 abbrev file : tie.After-p → File
-file c = storedFile (bytes c) (tables c) c.p.given.0.0
+file c = stored_file (bytes c) (tables c) c.p.given.0.0
 
 abbrev count : tie.After-p → ℕ
 count c = c.p.given.0.0.variables
 
-file-read : (c : tie.After-p) → accepted (file c) ≡ readFile (bytes c)
-file-read c = rw c.p.given.1 at c.before.before.read.ensures.0
+file_read : (c : tie.After-p) → accepted (file c) ≡ read_file (bytes c)
+file_read c = rw c.p.given.1 at c.before.before.read.ensures.0
 
 in_tables : (c : tie.After-p) → InTables c.p.given.0.0
 in_tables c = rw c.p.given.1 at c.before.before.read.ensures.2
 
 counted : (c : tie.After-p) → length (file c).variables ≡ count c
-counted c = variables-length (bytes c) (tables c).variables (count c)
+counted c = variables_length (bytes c) (tables c).variables (count c)
 
-heads-fit : (c : tie.After-p) → HeadsInUseFit (bytes c) (tables c) c.p.given.0.0
-heads-fit c = rw c.p.given.1 at c.before.before.read.ensures.3
+heads_fit : (c : tie.After-p) → HeadsInUseFit (bytes c) (tables c) c.p.given.0.0
+heads_fit c = rw c.p.given.1 at c.before.before.read.ensures.3
 
 -- ---- the values that fit
 abbrev values : tie.After-enum-told → List ℕ
@@ -61,7 +61,7 @@ reached c = c.before.before.before.before.before.before
 abbrev row : tie.After-enum-told → List ℕ
 row c = take (count (reached c)) (values c)
 
-unfit : (c : tie.After-enum-told) → none ≡ firstUnfit (file (reached c)).variables (row c)
+unfit : (c : tie.After-enum-told) → none ≡ first_unfit (file (reached c)).variables (row c)
 unfit c =
     let p = reached c in
     ap place (sym c.enum_told.given.1) ∙ c.before.before.first-unfit.ensures (bytes p)
@@ -75,14 +75,14 @@ fits c =
     row_fits (file p).variables (row c) (length-take-le (count p) (values c) (room c) ∙ sym (counted p)) (sym (unfit c))
 
 -- ---- whether they satisfy the file
-satisfied : (c : tie.After-satisfies) → c.satisfies.result ≡ isSatisfied (overallOf (freshVerdicts (file (reached c.before.before.before.before)) (row c.before.before.before.before)))
+satisfied : (c : tie.After-satisfies) → c.satisfies.result ≡ is_satisfied (overall_of (fresh_verdicts (file (reached c.before.before.before.before)) (row c.before.before.before.before)))
 satisfied c =
     let e = c.before.before.before.before in
     let p = reached e in
-    c.satisfies.ensures (file p).variables (heads-fit p)
+    c.satisfies.ensures (file p).variables (heads_fit p)
 
 read-requires : tie.Need-read-requires
-read-requires c κs = (search rules, searchable-none _)
+read-requires c κs = (search rules, searchable_none _)
 
 enum-known-r : tie.Need-enum-known-r
 enum-known-r c = search rules
@@ -97,7 +97,7 @@ returns : tie.Need-returns
 returns c =
     let a = c.before.before.before.before.before.before.before.before.before.before.before.before.args in
     let p = c.before.before.before in
-    rw c.refused.ensures (ap (written a.output.now) (writing-short a.constraint.now a.values.now a.output.now (file p) (file-read p) (count p) (counted p) c.before.if1.true))
+    rw c.refused.ensures (ap (written a.output.now) (writing_short a.constraint.now a.values.now a.output.now (file p) (file_read p) (count p) (counted p) c.before.if1.true))
 
 first-unfit-requires : tie.Need-first-unfit-requires
 first-unfit-requires c κs = ((in_tables c.before.before.before).variables, c.before.if1.false)
@@ -119,13 +119,13 @@ satisfies-requires c κs =
     let e = c.before.before.before in
     let p = reached e in
     let t = p.before.before.read.ensures.1 in
-    ((in_tables p).lines, t.heads, t.bodies, lines_fit (bytes p) (tables p) p.p.given.0.0 (row e) (file-read p) (heads-fit p) (fits e))
+    ((in_tables p).lines, t.heads, t.bodies, lines_fit (bytes p) (tables p) p.p.given.0.0 (row e) (file_read p) (heads_fit p) (fits e))
 
 write-row-requires : tie.Need-write-row-requires
 write-row-requires c κs =
     let e = c.before.before.before.before.before.before.before in
     let p = reached e in
-    (read_short (bytes p) (file p) (sym (file-read p)), (in_tables p).variables, length-take-le (count p) (values e) (room e))
+    (read_short (bytes p) (file p) (sym (file_read p)), (in_tables p).variables, length-take-le (count p) (values e) (room e))
 
 refused-requires-3 : tie.Need-refused-requires-3
 refused-requires-3 c κs = search rules
@@ -133,7 +133,7 @@ refused-requires-3 c κs = search rules
 returns-2 : tie.Need-returns-2
 returns-2 c =
     let a = c.before.before.before.before.before.before.before.before.before.before.args in
-    ap (written a.output.now) (writing-constraint a.constraint.now a.values.now a.output.now c.before.r.given.0.0 (rw c.before.r.given.1 at c.before.before.before.read.ensures.0))
+    ap (written a.output.now) (writing_constraint a.constraint.now a.values.now a.output.now c.before.r.given.0.0 (rw c.before.r.given.1 at c.before.before.before.read.ensures.0))
 
 returns-3 : tie.Need-returns-3
 returns-3 c =
@@ -141,7 +141,7 @@ returns-3 c =
     let p = c.before.before.before.before.before.before.before.before in
     let i = c.before.before.i.given in
     let e = rw i.1 at (c.before.before.before.before.first-unfit.ensures (bytes p)) in
-    rw c.refused2.ensures (ap (written a.output.now) (writing-unfit a.constraint.now a.values.now a.output.now (file p) (file-read p) (count p) (counted p) c.before.before.before.before.before.before.if1.false i.0.0 e))
+    rw c.refused2.ensures (ap (written a.output.now) (writing_unfit a.constraint.now a.values.now a.output.now (file p) (file_read p) (count p) (counted p) c.before.before.before.before.before.before.if1.false i.0.0 e))
 
 same_length : tie.Need-same-length
 same_length c = search rules
@@ -152,7 +152,7 @@ returns-4 c =
     let p = c.before.before.before.before.before.before.before.before.before.before.before.before.before.before.before.before in
     let e = c.before.before.before.before.before.before.before.before.before.before in
     c.before.before.write-row.ensures
-    ∙ ap (written a.output.now) (writing-text a.constraint.now a.values.now a.output.now (file p) (file-read p) (count p) (counted p) (room e) (unfit e) (sym c.before.before.before.before.before.if2.true ∙ satisfied c.before.before.before.before.before.before))
+    ∙ ap (written a.output.now) (writing_text a.constraint.now a.values.now a.output.now (file p) (file_read p) (count p) (counted p) (room e) (unfit e) (sym c.before.before.before.before.before.if2.true ∙ satisfied c.before.before.before.before.before.before))
 
 returns-5 : tie.Need-returns-5
 returns-5 c =
@@ -160,7 +160,7 @@ returns-5 c =
     let p = c.before.before.before.before.before.before.before.before.before.before.before.before in
     let e = c.before.before.before.before.before.before in
     rw c.refused3.ensures
-    (ap (written a.output.now) (writing-unsatisfied a.constraint.now a.values.now a.output.now (file p) (file-read p) (count p) (counted p) (room e) (unfit e) (sym c.before.if2.false ∙ satisfied c.before.before)))
+    (ap (written a.output.now) (writing_unsatisfied a.constraint.now a.values.now a.output.now (file p) (file_read p) (count p) (counted p) (room e) (unfit e) (sym c.before.if2.false ∙ satisfied c.before.before)))
 
 pub write_spec : {M : Type 1} → statement M
 write_spec =

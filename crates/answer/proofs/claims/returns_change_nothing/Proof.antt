@@ -1,11 +1,11 @@
-use Rattle.text.proofs.EndingLaws.{returns-change-nothing}
-use Rattle.answer.specs.Read.{readAnswer}
-use Rattle.answer.proofs.SameContentsLaws.{contents-decide}
+use Rattle.text.proofs.EndingLaws.{returns_change_nothing}
+use Rattle.answer.specs.Read.{read_answer}
+use Rattle.answer.proofs.SameContentsLaws.{contents_decide}
 use Rattle.answer.proofs.claims.returns_change_nothing.Statement.{statement}
 use Rattle.answer.proofs.claims.returns_change_nothing.Tie as tie
 
 returns : tie.Need-returns
-returns c = λ e xs sound distinct. returns-change-nothing (readAnswer xs) (contents-decide e xs sound distinct)
+returns c = λ e xs sound distinct. returns_change_nothing (read_answer xs) (contents_decide e xs sound distinct)
 
-pub returns-change-nothing-spec : {M : Type 1} → statement M
-returns-change-nothing-spec = tie.close (tie.spec returns)
+pub returns_change_nothing_spec : {M : Type 1} → statement M
+returns_change_nothing_spec = tie.close (tie.spec returns)

@@ -2,21 +2,21 @@ use mathlib.Core.Path.{◌∙◌}
 use mathlib.Core.List.{List}
 use borrow.Author.Rules.{rules}
 use Rattle.constraint.specs.File.{Variable}
-use Rattle.store.specs.Tables.{variablesIn}
+use Rattle.store.specs.Tables.{variables_in}
 use Rattle.text.specs.Scan.{line_at}
 use Rattle.answer.specs.declared.AnswerLine.TheVariants.{OfComment, OfSolution, OfValues, OfNoKind}
-use Rattle.answer.specs.Read.{Settings, settingsOf, readAnswerAs}
-use Rattle.answer.specs.Internal.{entriesIn}
-use Rattle.answer.proofs.ReaderLaws.{of-kind}
+use Rattle.answer.specs.Read.{Settings, settings_of, read_answer_as}
+use Rattle.answer.specs.Internal.{entries_in}
+use Rattle.answer.proofs.ReaderLaws.{of_kind}
 use Rattle.answer.proofs.reading.read_line.Statement.{statement}
 use Rattle.answer.proofs.reading.read_line.Tie as tie
 
 abbrev variables : tie.Start → List Variable
-variables s = variablesIn s.args.file.now s.args.variables.now s.args.n
+variables s = variables_in s.args.file.now s.args.variables.now s.args.n
 
 -- what is set before the line
 abbrev before : tie.Start → Settings
-before s = settingsOf s.args.solved (entriesIn s.args.flags.now s.args.values.now s.args.n)
+before s = settings_of s.args.solved (entries_in s.args.flags.now s.args.values.now s.args.n)
 
 kind-of-requires : tie.Need-kind-of-requires
 kind-of-requires c κs = search rules
@@ -43,23 +43,23 @@ refusal-requires : tie.Need-refusal-requires
 refusal-requires c κs = search rules
 
 returns : tie.Need-returns
-unfolding readAnswerAs
-returns c = let s = c.before.before.before.before.before in (λ next. of-kind OfComment (variables s) (before s) (line_at s.args.line.now s.args.at next) c.before.before.kind-of.ensures c.enum_told.given.1, s.requires.3)
+unfolding read_answer_as
+returns c = let s = c.before.before.before.before.before in (λ next. of_kind OfComment (variables s) (before s) (line_at s.args.line.now s.args.at next) c.before.before.kind-of.ensures c.enum_told.given.1, s.requires.3)
 
 returns-2 : tie.Need-returns-2
-unfolding readAnswerAs
-returns-2 c = let s = c.before.before.before.before.before.before in (λ next. c.solution-line.ensures (before s).values next ∙ of-kind OfSolution (variables s) (before s) (line_at s.args.line.now s.args.at next) c.before.before.before.kind-of.ensures c.before.enum-told2.given.1, s.requires.3)
+unfolding read_answer_as
+returns-2 c = let s = c.before.before.before.before.before.before in (λ next. c.solution-line.ensures (before s).values next ∙ of_kind OfSolution (variables s) (before s) (line_at s.args.line.now s.args.at next) c.before.before.before.kind-of.ensures c.before.enum-told2.given.1, s.requires.3)
 
 returns-3 : tie.Need-returns-3
-unfolding readAnswerAs
-returns-3 c = let s = c.before.before.before.before.before.before.before.before in (λ next. c.Value-line.ensures.0 next ∙ of-kind OfValues (variables s) (before s) (line_at s.args.line.now s.args.at next) c.before.before.before.before.before.kind-of.ensures c.before.before.before.enum-told3.given.1, c.Value-line.ensures.1)
+unfolding read_answer_as
+returns-3 c = let s = c.before.before.before.before.before.before.before.before in (λ next. c.Value-line.ensures.0 next ∙ of_kind OfValues (variables s) (before s) (line_at s.args.line.now s.args.at next) c.before.before.before.before.before.kind-of.ensures c.before.before.before.enum-told3.given.1, c.Value-line.ensures.1)
 
 returns-4 : tie.Need-returns-4
-unfolding readAnswerAs
-returns-4 c = let s = c.before.before.before.before.before.before in (λ next. rw c.refusal.ensures (of-kind OfNoKind (variables s) (before s) (line_at s.args.line.now s.args.at next) c.before.before.before.kind-of.ensures c.before.enum-told4.given.1), s.requires.3)
+unfolding read_answer_as
+returns-4 c = let s = c.before.before.before.before.before.before in (λ next. rw c.refusal.ensures (of_kind OfNoKind (variables s) (before s) (line_at s.args.line.now s.args.at next) c.before.before.before.kind-of.ensures c.before.enum-told4.given.1), s.requires.3)
 
-pub read-line-spec : {M : Type 1} → statement M
-read-line-spec =
+pub read_line_spec : {M : Type 1} → statement M
+read_line_spec =
     tie.close
     (tie.spec
     kind-of-requires

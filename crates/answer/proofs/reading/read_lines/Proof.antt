@@ -7,40 +7,40 @@ use lib.ListN.{length, take}
 use lib.Seq.{length-take-le}
 use borrow.Author.Rules.{rules}
 use Rattle.refusal.specs.declared.Subject.TheVariants.{Answer}
-use Rattle.text.proofs.FoundLineLaws.{Ended, line-ends}
-use Rattle.text.proofs.ReadingLaws.{Reading, reading-starts, reading-ends, reading-stops, reading-goes, reading-faults}
+use Rattle.text.proofs.FoundLineLaws.{Ended, line_ends}
+use Rattle.text.proofs.ReadingLaws.{Reading, reading_starts, reading_ends, reading_stops, reading_goes, reading_faults}
 use Rattle.constraint.specs.File.{Variable}
-use Rattle.store.specs.Tables.{variablesIn}
-use Rattle.answer.specs.Read.{Settings, settingsOf, readAnswerLine}
-use Rattle.answer.specs.Internal.{entriesIn, SettingsSized}
+use Rattle.store.specs.Tables.{variables_in}
+use Rattle.answer.specs.Read.{Settings, settings_of, read_answer_line}
+use Rattle.answer.specs.Internal.{entries_in, SettingsSized}
 use Rattle.answer.proofs.reading.read_lines.Statement.{statement}
 use Rattle.answer.proofs.reading.read_lines.Tie as tie
 
 abbrev invariant-loop : tie.invariant-loop
 invariant-loop file variables n answer flags₀ values₀ solved₀ i₀ flags values solved i =
-    Reading Answer (readAnswerLine (variablesIn file variables n)) (settingsOf false (entriesIn flags₀ values₀ n)) answer (settingsOf solved (entriesIn flags values n)) i × SettingsSized flags values
+    Reading Answer (read_answer_line (variables_in file variables n)) (settings_of false (entries_in flags₀ values₀ n)) answer (settings_of solved (entries_in flags values n)) i × SettingsSized flags values
 
 abbrev decreases-loop : tie.decreases-loop
 decreases-loop file variables n answer flags₀ values₀ solved₀ i₀ flags values solved i = length answer - i
 
 abbrev variables : tie.Start invariant-loop decreases-loop → List Variable
-variables s = variablesIn s.args.file.now s.args.variables.now s.args.n
+variables s = variables_in s.args.file.now s.args.variables.now s.args.n
 
 -- what is set before the first line
 abbrev before : tie.Start invariant-loop decreases-loop → Settings
-before s = settingsOf false (entriesIn s.args.flags.now s.args.values.now s.args.n)
+before s = settings_of false (entries_in s.args.flags.now s.args.values.now s.args.n)
 
 -- the line that is found
 line : (c : tie.After-stop invariant-loop decreases-loop) → let l = c.before.before.before.before in Ended l.before.before.before.args.answer.now l.loop.i c.stop.given.0.0 c.stop.given.0.1.0
 line c =
     let l = c.before.before.before.before in
-    line-ends l.before.before.before.args.answer.now l.loop.i c.before.before.before.loop-test.true _ _ (sym c.stop.given.1 ∙ c.before.before.find-line.ensures)
+    line_ends l.before.before.before.args.answer.now l.loop.i c.before.before.before.loop-test.true _ _ (sym c.stop.given.1 ∙ c.before.before.find-line.ensures)
 
 long : (c : tie.After-stop invariant-loop decreases-loop) → length (take c.stop.given.0.0 c.before.before.before.before.before.before.before.args.answer.now) ≡ c.stop.given.0.0
 long c = length-take-le c.stop.given.0.0 c.before.before.before.before.before.before.before.args.answer.now (line c).within
 
 loop-holds : tie.Need-loop-init invariant-loop decreases-loop
-loop-holds c = let s = c.before.before in (reading-starts Answer (readAnswerLine (variables s)) (before s) s.args.answer.now, s.requires.2)
+loop-holds c = let s = c.before.before in (reading_starts Answer (read_answer_line (variables s)) (before s) s.args.answer.now, s.requires.2)
 
 find-line-requires : tie.Need-find-line-requires invariant-loop decreases-loop
 find-line-requires c κs = omega arith
@@ -56,7 +56,7 @@ returns c =
     let b = c.before.before in
     let l = b.before.before.before.before in
     let s = l.before.before.before in
-    (rw c.refusal.ensures (reading-faults Answer (readAnswerLine (variables s)) (before s) s.args.answer.now l.loop.invariant.0 b.before.before.before.loop-test.true b.bad.given.0.0 (sym b.bad.given.1 ∙ b.before.before.find-line.ensures)), l.loop.invariant.1)
+    (rw c.refusal.ensures (reading_faults Answer (read_answer_line (variables s)) (before s) s.args.answer.now l.loop.invariant.0 b.before.before.before.loop-test.true b.bad.given.0.0 (sym b.bad.given.1 ∙ b.before.before.find-line.ensures)), l.loop.invariant.1)
 
 enum-known-stop : tie.Need-enum-known-stop invariant-loop decreases-loop
 enum-known-stop c = search rules
@@ -80,7 +80,7 @@ returns-2 c =
     let l = a.before.before.before.before in
     let s = l.before.before.before in
     let next = a.stop.given.0.1.0 in
-    (reading-stops Answer (readAnswerLine (variables s)) (before s) s.args.answer.now l.loop.invariant.0 a.before.before.before.loop-test.true a.stop.given.0.0 next (line a) c.before.r.given.0.0 (rw c.before.r.given.1 at (r.read-any-line.ensures.0 next)), r.read-any-line.ensures.1)
+    (reading_stops Answer (read_answer_line (variables s)) (before s) s.args.answer.now l.loop.invariant.0 a.before.before.before.loop-test.true a.stop.given.0.0 next (line a) c.before.r.given.0.0 (rw c.before.r.given.1 at (r.read-any-line.ensures.0 next)), r.read-any-line.ensures.1)
 
 enum-known-s : tie.Need-enum-known-s invariant-loop decreases-loop
 enum-known-s c = search rules
@@ -97,13 +97,13 @@ loop-again c =
     let l = a.before.before.before.before in
     let s = l.before.before.before in
     let next = a.stop.given.0.1.0 in
-    (reading-goes Answer (readAnswerLine (variables s)) (before s) s.args.answer.now l.loop.invariant.0 a.before.before.before.loop-test.true a.stop.given.0.0 next (line a) _ (rw c.before.s.given.1 at (r.read-any-line.ensures.0 next)), r.read-any-line.ensures.1)
+    (reading_goes Answer (read_answer_line (variables s)) (before s) s.args.answer.now l.loop.invariant.0 a.before.before.before.loop-test.true a.stop.given.0.0 next (line a) _ (rw c.before.s.given.1 at (r.read-any-line.ensures.0 next)), r.read-any-line.ensures.1)
 
 returns-3 : tie.Need-returns-3 invariant-loop decreases-loop
-returns-3 c = let s = c.before.before.before.before in (reading-ends Answer (readAnswerLine (variables s)) (before s) s.args.answer.now c.before.loop.invariant.0 c.loop-test.false, c.before.loop.invariant.1)
+returns-3 c = let s = c.before.before.before.before in (reading_ends Answer (read_answer_line (variables s)) (before s) s.args.answer.now c.before.loop.invariant.0 c.loop-test.false, c.before.loop.invariant.1)
 
-pub read-lines-spec : {M : Type 1} → statement M
-read-lines-spec =
+pub read_lines_spec : {M : Type 1} → statement M
+read_lines_spec =
     tie.close
     (tie.spec
     invariant-loop

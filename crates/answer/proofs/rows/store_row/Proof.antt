@@ -48,8 +48,8 @@ same_length c = c.before.loop.invariant.1
 returns : tie.Need-returns invariant-loop decreases-loop
 returns c = let e : c.before.loop.i ≡ c.before.before.args.n = omega arith in rw e at c.before.loop.invariant.2
 
-pub store-row-spec : {M : Type 1} → statement M
-store-row-spec =
+pub store_row_spec : {M : Type 1} → statement M
+store_row_spec =
     tie.close
     (tie.spec
     invariant-loop

@@ -3,7 +3,7 @@ use mathlib.Core.Path.{sym, ◌∙◌}
 use native.Mathlib.Omega.{arith}
 use lib.ListN.{length}
 use borrow.Author.Rules.{rules}
-use Rattle.answer.proofs.SettingValueLaws.{none_read, value_none, value-other, digits-bounds, value_read, value-longer}
+use Rattle.answer.proofs.SettingValueLaws.{none_read, value_none, value_other, digits_bounds, value_read, value_longer}
 use Rattle.answer.proofs.settings.value_at.Statement.{statement}
 use Rattle.answer.proofs.settings.value_at.Tie as tie
 
@@ -13,7 +13,7 @@ inside c = omega (arith, c.before.before.requires, c.if1.false)
 
 -- where the digits stop
 bounds : (c : tie.After-digits-at) → let a = c.before.before.before.before.before.args in (a.at + 1 ≤ c.digits-at.result.stop) × (c.digits-at.result.stop ≤ length a.line.now)
-bounds c = let a = c.before.before.before.before.before.args in digits-bounds a.line.now a.at (inside c.before.before.before) c.before.if2.false _ c.digits-at.ensures.1
+bounds c = let a = c.before.before.before.before.before.args in digits_bounds a.line.now a.at (inside c.before.before.before) c.before.if2.false _ c.digits-at.ensures.1
 
 no-value-requires : tie.Need-no-value-requires
 no-value-requires c κs = search rules
@@ -28,7 +28,7 @@ no-value-requires-2 : tie.Need-no-value-requires-2
 no-value-requires-2 c κs = search rules
 
 returns-2 : tie.Need-returns-2
-returns-2 c = let a = c.before.before.before.before.before.args in none_read _ _ _ _ c.no-value2.ensures (value-other a.line.now a.at (inside c.before.before.before) c.before.if2.true)
+returns-2 c = let a = c.before.before.before.before.before.args in none_read _ _ _ _ c.no-value2.ensures (value_other a.line.now a.at (inside c.before.before.before) c.before.if2.true)
 
 add-next : tie.Need-overflow-add-next
 add-next c = search rules
@@ -52,16 +52,16 @@ returns-3 : tie.Need-returns-3
 returns-3 c =
     let d = c.before.before.before in
     let a = c.before.before.before.before.before.before.before.before.args in
-    value_read a.line.now a.at (inside c.before.before.before.before.before.before) c.before.before.before.before.if2.false _ d.digits-at.ensures.1 (sym c.before.before.token-ends.ensures ∙ c.before.if3.true) _ _ d.digits-at.ensures.0 c.within-digits.ensures
+    value_read a.line.now a.at (inside c.before.before.before.before.before.before) c.before.before.before.before.if2.false _ d.digits-at.ensures.1 (sym c.before.before.token_ends.ensures ∙ c.before.if3.true) _ _ d.digits-at.ensures.0 c.within-digits.ensures
 
 returns-4 : tie.Need-returns-4
 returns-4 c =
     let d = c.before.before.before in
     let a = c.before.before.before.before.before.before.before.before.args in
-    none_read _ _ _ _ c.no-value3.ensures (value-longer a.line.now a.at (inside c.before.before.before.before.before.before) c.before.before.before.before.if2.false _ d.digits-at.ensures.1 (sym c.before.before.token-ends.ensures ∙ c.before.if3.false))
+    none_read _ _ _ _ c.no-value3.ensures (value_longer a.line.now a.at (inside c.before.before.before.before.before.before) c.before.before.before.before.if2.false _ d.digits-at.ensures.1 (sym c.before.before.token_ends.ensures ∙ c.before.if3.false))
 
-pub value-at-spec : {M : Type 1} → statement M
-value-at-spec =
+pub value_at_spec : {M : Type 1} → statement M
+value_at_spec =
     tie.close
     (tie.spec
     no-value-requires

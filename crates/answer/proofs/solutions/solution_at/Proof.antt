@@ -1,6 +1,6 @@
 use mathlib.Core.Path.{sym, ◌∙◌}
 use borrow.Author.Rules.{rules}
-use Rattle.answer.specs.Read.{solutionOf}
+use Rattle.answer.specs.Read.{solution_of}
 use Rattle.answer.proofs.solutions.solution_at.Statement.{statement}
 use Rattle.answer.proofs.solutions.solution_at.Tie as tie
 
@@ -14,7 +14,7 @@ is-word-requires : tie.Need-is-word-requires
 is-word-requires c κs = search rules
 
 returns : tie.Need-returns
-unfolding solutionOf
+unfolding solution_of
 returns c = rw (rw c.before.before.before.satisfiable.ensures at (sym c.before.is_IsWord.ensures ∙ c.if1.true))
 
 unsatisfiable-requires : tie.Need-unsatisfiable-requires
@@ -36,15 +36,15 @@ is-word-requires-3 : tie.Need-is-word-requires-3
 is-word-requires-3 c κs = search rules
 
 returns-2 : tie.Need-returns-2
-unfolding solutionOf
+unfolding solution_of
 returns-2 c = rw (rw c.before.before.before.before.before.before.before.before.before.before.satisfiable.ensures at (sym c.before.before.before.before.before.before.before.before.is_IsWord.ensures ∙ c.before.before.before.before.before.before.before.if1.false), rw (c.before.before.before.before.is-word2.ensures, c.before.is-word3.ensures, c.before.before.before.before.before.before.unsatisfiable.ensures, c.before.before.before.unknown.ensures) at c.if2.true)
 
 returns-3 : tie.Need-returns-3
-unfolding solutionOf
+unfolding solution_of
 returns-3 c = rw (rw c.before.before.before.before.before.before.before.before.before.before.satisfiable.ensures at (sym c.before.before.before.before.before.before.before.before.is_IsWord.ensures ∙ c.before.before.before.before.before.before.before.if1.false), rw (c.before.before.before.before.is-word2.ensures, c.before.is-word3.ensures, c.before.before.before.before.before.before.unsatisfiable.ensures, c.before.before.before.unknown.ensures) at c.if2.false)
 
-pub solution-at-spec : {M : Type 1} → statement M
-solution-at-spec =
+pub solution_at_spec : {M : Type 1} → statement M
+solution_at_spec =
     tie.close
     (tie.spec
     satisfiable-requires

@@ -7,14 +7,14 @@ use native.Mathlib.Omega.{arith}
 use lib.ListN.{length, take, drop}
 use lib.Seq.{length-take-le}
 use borrow.Author.Rules.{rules}
-use Rattle.text.specs.Lines.{tokensFrom}
-use Rattle.text.specs.Scan.{tokenAt}
-use Rattle.answer.proofs.SolutionLaws.{solution-misplaced, solution-missing, solution-satisfiable, solution-otherwise, solution-none}
+use Rattle.text.specs.Lines.{tokens_from}
+use Rattle.text.specs.Scan.{token_at}
+use Rattle.answer.proofs.SolutionLaws.{solution_misplaced, solution_missing, solution_satisfiable, solution_otherwise, solution_none}
 use Rattle.answer.proofs.solutions.solution_line.Statement.{statement}
 use Rattle.answer.proofs.solutions.solution_line.Tie as tie
 
 -- the line's first token, and that it lies in the line
-tokens : (c : tie.After-t) → let a = c.before.before.before.before.before.args in let t = c.t.given.0.0 in tokensFrom true (a.at + 1) (drop (a.at + 1) a.line.now) ≡ tokenAt (take t.stop a.line.now) t.start ∷ tokensFrom true t.stop (drop t.stop a.line.now)
+tokens : (c : tie.After-t) → let a = c.before.before.before.before.before.args in let t = c.t.given.0.0 in tokens_from true (a.at + 1) (drop (a.at + 1) a.line.now) ≡ token_at (take t.stop a.line.now) t.start ∷ tokens_from true t.stop (drop t.stop a.line.now)
 tokens c = rw c.t.given.1 at c.before.before.next-token.ensures.0
 
 bounds : (c : tie.After-t) → let t = c.t.given.0.0 in (t.start < t.stop) × (t.stop ≤ length c.before.before.before.before.before.args.line.now)
@@ -27,7 +27,7 @@ refusal-requires : tie.Need-refusal-requires
 refusal-requires c κs = search rules
 
 returns : tie.Need-returns
-returns c = λ vs next. let a = c.before.before.before.args in rw c.refusal.ensures (solution-misplaced a.solved vs a.line.now a.at next c.before.if1.true)
+returns c = λ vs next. let a = c.before.before.before.args in rw c.refusal.ensures (solution_misplaced a.solved vs a.line.now a.at next c.before.if1.true)
 
 add-next : tie.Need-overflow-add-next
 add-next c = search rules
@@ -69,19 +69,19 @@ refusal-requires-4 : tie.Need-refusal-requires-4
 refusal-requires-4 c κs = search rules
 
 returns-2 : tie.Need-returns-2
-returns-2 c = λ vs next. let a = c.before.before.before.before.before.before.args in rw c.refusal2.ensures (solution-missing a.solved vs a.line.now a.at next c.before.before.before.before.if1.false (le_of_lt c.before.before.before.before.before.before.requires) (rw c.before.enum_told.given.1 at c.before.before.before.next-token.ensures.0))
+returns-2 c = λ vs next. let a = c.before.before.before.before.before.before.args in rw c.refusal2.ensures (solution_missing a.solved vs a.line.now a.at next c.before.before.before.before.if1.false (le_of_lt c.before.before.before.before.before.before.requires) (rw c.before.enum_told.given.1 at c.before.before.before.next-token.ensures.0))
 
 returns-3 : tie.Need-returns-3
-returns-3 c = λ vs next. let a = c.before.before.before.before.before.before.before.before.before.before.before.args in c.unless-more.ensures vs ∙ solution-satisfiable a.solved vs a.line.now a.at next c.before.before.before.before.before.before.before.before.before.if1.false (tokens c.before.before.before.before.before.before) (sym c.before.enum-told2.given.1 ∙ c.before.before.before.solution-at.ensures)
+returns-3 c = λ vs next. let a = c.before.before.before.before.before.before.before.before.before.before.before.args in c.unless-more.ensures vs ∙ solution_satisfiable a.solved vs a.line.now a.at next c.before.before.before.before.before.before.before.before.before.if1.false (tokens c.before.before.before.before.before.before) (sym c.before.enum-told2.given.1 ∙ c.before.before.before.solution-at.ensures)
 
 returns-4 : tie.Need-returns-4
-returns-4 c = λ vs next. let a = c.before.before.before.before.before.before.before.before.before.before.before.args in rw c.refusal3.ensures (solution-otherwise a.solved vs a.line.now a.at next c.before.before.before.before.before.before.before.before.before.if1.false (tokens c.before.before.before.before.before.before) (sym c.before.enum-told3.given.1 ∙ c.before.before.before.solution-at.ensures))
+returns-4 c = λ vs next. let a = c.before.before.before.before.before.before.before.before.before.before.before.args in rw c.refusal3.ensures (solution_otherwise a.solved vs a.line.now a.at next c.before.before.before.before.before.before.before.before.before.if1.false (tokens c.before.before.before.before.before.before) (sym c.before.enum-told3.given.1 ∙ c.before.before.before.solution-at.ensures))
 
 returns-5 : tie.Need-returns-5
-returns-5 c = λ vs next. let a = c.before.before.before.before.before.before.before.before.before.before.before.args in rw c.refusal4.ensures (solution-none a.solved vs a.line.now a.at next c.before.before.before.before.before.before.before.before.before.if1.false (tokens c.before.before.before.before.before.before) (sym c.before.enum-told4.given.1 ∙ c.before.before.before.solution-at.ensures))
+returns-5 c = λ vs next. let a = c.before.before.before.before.before.before.before.before.before.before.before.args in rw c.refusal4.ensures (solution_none a.solved vs a.line.now a.at next c.before.before.before.before.before.before.before.before.before.if1.false (tokens c.before.before.before.before.before.before) (sym c.before.enum-told4.given.1 ∙ c.before.before.before.solution-at.ensures))
 
-pub solution-line-spec : {M : Type 1} → statement M
-solution-line-spec =
+pub solution_line_spec : {M : Type 1} → statement M
+solution_line_spec =
     tie.close
     (tie.spec
     refusal-requires

@@ -20,7 +20,7 @@ returns c = λ vs. rw (c.before.before.before.before.next-token.ensures.0, c.bef
 returns-2 : tie.Need-returns-2
 returns-2 c = λ vs. rw (c.before.before.next-token.ensures.0, c.enum_told.given.1)
 
-pub unless-more-spec : {M : Type 1} → statement M
-unless-more-spec =
+pub unless_more_spec : {M : Type 1} → statement M
+unless_more_spec =
     tie.close
     (tie.spec next-token-requires enum-known-t refusal-requires enum_told returns returns-2)

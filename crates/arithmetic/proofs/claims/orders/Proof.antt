@@ -5,5 +5,5 @@ use Rattle.arithmetic.proofs.claims.orders.Tie as tie
 returns : tie.Need-returns
 returns c = orders
 
-pub orders-spec : {M : Type 1} → statement M
-orders-spec = tie.close (tie.spec returns)
+pub orders_spec : {M : Type 1} → statement M
+orders_spec = tie.close (tie.spec returns)

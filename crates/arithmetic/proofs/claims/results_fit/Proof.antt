@@ -5,5 +5,5 @@ use Rattle.arithmetic.proofs.claims.results_fit.Tie as tie
 returns : tie.Need-returns
 returns c = results_fit
 
-pub results-fit-spec : {M : Type 1} → statement M
-results-fit-spec = tie.close (tie.spec returns)
+pub results_fit_spec : {M : Type 1} → statement M
+results_fit_spec = tie.close (tie.spec returns)

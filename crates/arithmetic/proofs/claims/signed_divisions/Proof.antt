@@ -1,9 +1,9 @@
-use Rattle.arithmetic.proofs.DivisionLaws.{signed-divisions}
+use Rattle.arithmetic.proofs.DivisionLaws.{signed_divisions}
 use Rattle.arithmetic.proofs.claims.signed_divisions.Statement.{statement}
 use Rattle.arithmetic.proofs.claims.signed_divisions.Tie as tie
 
 returns : tie.Need-returns
-returns c = signed-divisions
+returns c = signed_divisions
 
-pub signed-divisions-spec : {M : Type 1} → statement M
-signed-divisions-spec = tie.close (tie.spec returns)
+pub signed_divisions_spec : {M : Type 1} → statement M
+signed_divisions_spec = tie.close (tie.spec returns)

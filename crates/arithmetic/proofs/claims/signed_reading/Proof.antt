@@ -5,5 +5,5 @@ use Rattle.arithmetic.proofs.claims.signed_reading.Tie as tie
 returns : tie.Need-returns
 returns c = reading
 
-pub signed-reading-spec : {M : Type 1} → statement M
-signed-reading-spec = tie.close (tie.spec returns)
+pub signed_reading_spec : {M : Type 1} → statement M
+signed_reading_spec = tie.close (tie.spec returns)

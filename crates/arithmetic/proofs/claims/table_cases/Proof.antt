@@ -1,11 +1,11 @@
 -- W1 to W12 hold by computation.
 use mathlib.Core.Path.{refl}
-use Rattle.edition.specs.Edition.{isWidth}
+use Rattle.edition.specs.Edition.{is_width}
 use Rattle.refusal.specs.Lists.{every}
-use Rattle.arithmetic.specs.Rules.{arity, widthsHold, joins, cuts, typed}
+use Rattle.arithmetic.specs.Rules.{arity, widths_hold, joins, cuts, typed}
 use Rattle.arithmetic.specs.Bits.{bit, places, inverted}
 use Rattle.arithmetic.specs.Signed.{signed, modulo, quotient}
-use Rattle.arithmetic.specs.Flags.{sum, flagC, carryIn, flagV, flagN, flagZ, compared}
+use Rattle.arithmetic.specs.Flags.{sum, flag_c, carry_in, flag_v, flag_n, flag_z, compared}
 use Rattle.arithmetic.specs.Arithmetic.{computed, divided, shifted}
 use Rattle.arithmetic.specs.Meaning.{value_of, meaning}
 use Rattle.arithmetic.specs.Cases.{cases}
@@ -14,8 +14,8 @@ use Rattle.arithmetic.proofs.claims.table_cases.Statement.{statement}
 use Rattle.arithmetic.proofs.claims.table_cases.Tie as tie
 
 returns : tie.Need-returns
-unfolding isWidth every arity widthsHold joins cuts typed bit places inverted signed modulo quotient sum flagC carryIn flagV flagN flagZ compared computed divided shifted value_of meaning cases xor
+unfolding is_width every arity widths_hold joins cuts typed bit places inverted signed modulo quotient sum flag_c carry_in flag_v flag_n flag_z compared computed divided shifted value_of meaning cases xor
 returns c = refl
 
-pub table-cases-spec : {M : Type 1} → statement M
-table-cases-spec = tie.close (tie.spec returns)
+pub table_cases_spec : {M : Type 1} → statement M
+table_cases_spec = tie.close (tie.spec returns)

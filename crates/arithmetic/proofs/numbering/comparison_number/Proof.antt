@@ -1,4 +1,4 @@
-use Rattle.arithmetic.specs.Numbering.{comparisonNumber}
+use Rattle.arithmetic.specs.Numbering.{comparison_number}
 use borrow.Author.Rules.{rules}
 use Rattle.arithmetic.proofs.numbering.comparison_number.Statement.{statement}
 use Rattle.arithmetic.proofs.numbering.comparison_number.Tie as tie
@@ -34,47 +34,47 @@ enum-told-10 : tie.Need-enum-told-10
 enum-told-10 c = search rules
 
 returns : tie.Need-returns
-unfolding comparisonNumber
+unfolding comparison_number
 returns c = rw c.enum_told.given.1
 
 returns-2 : tie.Need-returns-2
-unfolding comparisonNumber
+unfolding comparison_number
 returns-2 c = rw c.enum-told2.given.1
 
 returns-3 : tie.Need-returns-3
-unfolding comparisonNumber
+unfolding comparison_number
 returns-3 c = rw c.enum-told3.given.1
 
 returns-4 : tie.Need-returns-4
-unfolding comparisonNumber
+unfolding comparison_number
 returns-4 c = rw c.enum-told4.given.1
 
 returns-5 : tie.Need-returns-5
-unfolding comparisonNumber
+unfolding comparison_number
 returns-5 c = rw c.enum-told5.given.1
 
 returns-6 : tie.Need-returns-6
-unfolding comparisonNumber
+unfolding comparison_number
 returns-6 c = rw c.enum-told6.given.1
 
 returns-7 : tie.Need-returns-7
-unfolding comparisonNumber
+unfolding comparison_number
 returns-7 c = rw c.enum-told7.given.1
 
 returns-8 : tie.Need-returns-8
-unfolding comparisonNumber
+unfolding comparison_number
 returns-8 c = rw c.enum-told8.given.1
 
 returns-9 : tie.Need-returns-9
-unfolding comparisonNumber
+unfolding comparison_number
 returns-9 c = rw c.enum-told9.given.1
 
 returns-10 : tie.Need-returns-10
-unfolding comparisonNumber
+unfolding comparison_number
 returns-10 c = rw c.enum-told10.given.1
 
-pub comparison-number-spec : {M : Type 1} → statement M
-comparison-number-spec =
+pub comparison_number_spec : {M : Type 1} → statement M
+comparison_number_spec =
     tie.close
     (tie.spec
     enum_told

@@ -1,4 +1,4 @@
-use Rattle.arithmetic.specs.Numbering.{divisionNumber}
+use Rattle.arithmetic.specs.Numbering.{division_number}
 use borrow.Author.Rules.{rules}
 use Rattle.arithmetic.proofs.numbering.division_number.Statement.{statement}
 use Rattle.arithmetic.proofs.numbering.division_number.Tie as tie
@@ -16,22 +16,22 @@ enum-told-4 : tie.Need-enum-told-4
 enum-told-4 c = search rules
 
 returns : tie.Need-returns
-unfolding divisionNumber
+unfolding division_number
 returns c = rw c.enum_told.given.1
 
 returns-2 : tie.Need-returns-2
-unfolding divisionNumber
+unfolding division_number
 returns-2 c = rw c.enum-told2.given.1
 
 returns-3 : tie.Need-returns-3
-unfolding divisionNumber
+unfolding division_number
 returns-3 c = rw c.enum-told3.given.1
 
 returns-4 : tie.Need-returns-4
-unfolding divisionNumber
+unfolding division_number
 returns-4 c = rw c.enum-told4.given.1
 
-pub division-number-spec : {M : Type 1} → statement M
-division-number-spec =
+pub division_number_spec : {M : Type 1} → statement M
+division_number_spec =
     tie.close
     (tie.spec enum_told enum-told-2 enum-told-3 enum-told-4 returns returns-2 returns-3 returns-4)

@@ -1,4 +1,4 @@
-use Rattle.arithmetic.specs.Numbering.{extensionNumber}
+use Rattle.arithmetic.specs.Numbering.{extension_number}
 use borrow.Author.Rules.{rules}
 use Rattle.arithmetic.proofs.numbering.extension_number.Statement.{statement}
 use Rattle.arithmetic.proofs.numbering.extension_number.Tie as tie
@@ -10,12 +10,12 @@ enum-told-2 : tie.Need-enum-told-2
 enum-told-2 c = search rules
 
 returns : tie.Need-returns
-unfolding extensionNumber
+unfolding extension_number
 returns c = rw c.enum_told.given.1
 
 returns-2 : tie.Need-returns-2
-unfolding extensionNumber
+unfolding extension_number
 returns-2 c = rw c.enum-told2.given.1
 
-pub extension-number-spec : {M : Type 1} → statement M
-extension-number-spec = tie.close (tie.spec enum_told enum-told-2 returns returns-2)
+pub extension_number_spec : {M : Type 1} → statement M
+extension_number_spec = tie.close (tie.spec enum_told enum-told-2 returns returns-2)

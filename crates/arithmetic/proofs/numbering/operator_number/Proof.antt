@@ -1,4 +1,4 @@
-use Rattle.arithmetic.specs.Numbering.{operatorNumber}
+use Rattle.arithmetic.specs.Numbering.{operator_number}
 use borrow.Author.Rules.{rules}
 use Rattle.arithmetic.proofs.numbering.operator_number.Statement.{statement}
 use Rattle.arithmetic.proofs.numbering.operator_number.Tie as tie
@@ -58,55 +58,55 @@ enum-told-6 : tie.Need-enum-told-6
 enum-told-6 c = search rules
 
 returns : tie.Need-returns
-unfolding operatorNumber
+unfolding operator_number
 returns c = rw c.before.before.op.given.1 c.bitwise-number.ensures
 
 returns-2 : tie.Need-returns-2
-unfolding operatorNumber
+unfolding operator_number
 returns-2 c = rw c.enum_told.given.1
 
 returns-3 : tie.Need-returns-3
-unfolding operatorNumber
+unfolding operator_number
 returns-3 c = rw c.enum-told2.given.1
 
 returns-4 : tie.Need-returns-4
-unfolding operatorNumber
+unfolding operator_number
 returns-4 c = rw c.before.before.op2.given.1 c.comparison-number.ensures
 
 returns-5 : tie.Need-returns-5
-unfolding operatorNumber
+unfolding operator_number
 returns-5 c = rw c.enum-told3.given.1
 
 returns-6 : tie.Need-returns-6
-unfolding operatorNumber
+unfolding operator_number
 returns-6 c = rw c.before.before.op3.given.1 c.arithmetic-number.ensures
 
 returns-7 : tie.Need-returns-7
-unfolding operatorNumber
+unfolding operator_number
 returns-7 c = rw c.before.before.op4.given.1 c.division-number.ensures
 
 returns-8 : tie.Need-returns-8
-unfolding operatorNumber
+unfolding operator_number
 returns-8 c = rw c.before.before.op5.given.1 c.shift-number.ensures
 
 returns-9 : tie.Need-returns-9
-unfolding operatorNumber
+unfolding operator_number
 returns-9 c = rw c.enum-told4.given.1
 
 returns-10 : tie.Need-returns-10
-unfolding operatorNumber
+unfolding operator_number
 returns-10 c = rw c.before.before.op6.given.1 c.extension-number.ensures
 
 returns-11 : tie.Need-returns-11
-unfolding operatorNumber
+unfolding operator_number
 returns-11 c = rw c.enum-told5.given.1
 
 returns-12 : tie.Need-returns-12
-unfolding operatorNumber
+unfolding operator_number
 returns-12 c = rw c.enum-told6.given.1
 
-pub operator-number-spec : {M : Type 1} → statement M
-operator-number-spec =
+pub operator_number_spec : {M : Type 1} → statement M
+operator_number_spec =
     tie.close
     (tie.spec
     enum-known-op

@@ -1,134 +1,134 @@
-use Rattle.arithmetic.specs.Numbering.{listed, operatorNumbered}
+use Rattle.arithmetic.specs.Numbering.{listed, operator_numbered}
 use Rattle.arithmetic.proofs.NumberLaws.{last}
 use Rattle.arithmetic.proofs.numbering.operator_numbered.Statement.{statement}
 use Rattle.arithmetic.proofs.numbering.operator_numbered.Tie as tie
 
 returns : tie.Need-returns
-unfolding operatorNumbered listed
+unfolding operator_numbered listed
 returns c = rw c.match.keys1
 
 returns-2 : tie.Need-returns-2
-unfolding operatorNumbered listed
+unfolding operator_numbered listed
 returns-2 c = rw c.match.keys2
 
 returns-3 : tie.Need-returns-3
-unfolding operatorNumbered listed
+unfolding operator_numbered listed
 returns-3 c = rw c.match.keys3
 
 returns-4 : tie.Need-returns-4
-unfolding operatorNumbered listed
+unfolding operator_numbered listed
 returns-4 c = rw c.match.keys4
 
 returns-5 : tie.Need-returns-5
-unfolding operatorNumbered listed
+unfolding operator_numbered listed
 returns-5 c = rw c.match.keys5
 
 returns-6 : tie.Need-returns-6
-unfolding operatorNumbered listed
+unfolding operator_numbered listed
 returns-6 c = rw c.match.keys6
 
 returns-7 : tie.Need-returns-7
-unfolding operatorNumbered listed
+unfolding operator_numbered listed
 returns-7 c = rw c.match.keys7
 
 returns-8 : tie.Need-returns-8
-unfolding operatorNumbered listed
+unfolding operator_numbered listed
 returns-8 c = rw c.match.keys8
 
 returns-9 : tie.Need-returns-9
-unfolding operatorNumbered listed
+unfolding operator_numbered listed
 returns-9 c = rw c.match.keys9
 
 returns-10 : tie.Need-returns-10
-unfolding operatorNumbered listed
+unfolding operator_numbered listed
 returns-10 c = rw c.match.keys10
 
 returns-11 : tie.Need-returns-11
-unfolding operatorNumbered listed
+unfolding operator_numbered listed
 returns-11 c = rw c.match.keys11
 
 returns-12 : tie.Need-returns-12
-unfolding operatorNumbered listed
+unfolding operator_numbered listed
 returns-12 c = rw c.match.keys12
 
 returns-13 : tie.Need-returns-13
-unfolding operatorNumbered listed
+unfolding operator_numbered listed
 returns-13 c = rw c.match.keys13
 
 returns-14 : tie.Need-returns-14
-unfolding operatorNumbered listed
+unfolding operator_numbered listed
 returns-14 c = rw c.match.keys14
 
 returns-15 : tie.Need-returns-15
-unfolding operatorNumbered listed
+unfolding operator_numbered listed
 returns-15 c = rw c.match.keys15
 
 returns-16 : tie.Need-returns-16
-unfolding operatorNumbered listed
+unfolding operator_numbered listed
 returns-16 c = rw c.match.keys16
 
 returns-17 : tie.Need-returns-17
-unfolding operatorNumbered listed
+unfolding operator_numbered listed
 returns-17 c = rw c.match.keys17
 
 returns-18 : tie.Need-returns-18
-unfolding operatorNumbered listed
+unfolding operator_numbered listed
 returns-18 c = rw c.match.keys18
 
 returns-19 : tie.Need-returns-19
-unfolding operatorNumbered listed
+unfolding operator_numbered listed
 returns-19 c = rw c.match.keys19
 
 returns-20 : tie.Need-returns-20
-unfolding operatorNumbered listed
+unfolding operator_numbered listed
 returns-20 c = rw c.match.keys20
 
 returns-21 : tie.Need-returns-21
-unfolding operatorNumbered listed
+unfolding operator_numbered listed
 returns-21 c = rw c.match.keys21
 
 returns-22 : tie.Need-returns-22
-unfolding operatorNumbered listed
+unfolding operator_numbered listed
 returns-22 c = rw c.match.keys22
 
 returns-23 : tie.Need-returns-23
-unfolding operatorNumbered listed
+unfolding operator_numbered listed
 returns-23 c = rw c.match.keys23
 
 returns-24 : tie.Need-returns-24
-unfolding operatorNumbered listed
+unfolding operator_numbered listed
 returns-24 c = rw c.match.keys24
 
 returns-25 : tie.Need-returns-25
-unfolding operatorNumbered listed
+unfolding operator_numbered listed
 returns-25 c = rw c.match.keys25
 
 returns-26 : tie.Need-returns-26
-unfolding operatorNumbered listed
+unfolding operator_numbered listed
 returns-26 c = rw c.match.keys26
 
 returns-27 : tie.Need-returns-27
-unfolding operatorNumbered listed
+unfolding operator_numbered listed
 returns-27 c = rw c.match.keys27
 
 returns-28 : tie.Need-returns-28
-unfolding operatorNumbered listed
+unfolding operator_numbered listed
 returns-28 c = rw c.match.keys28
 
 returns-29 : tie.Need-returns-29
-unfolding operatorNumbered listed
+unfolding operator_numbered listed
 returns-29 c = rw c.match.keys29
 
 returns-30 : tie.Need-returns-30
-unfolding operatorNumbered listed
+unfolding operator_numbered listed
 returns-30 c = rw c.match.keys30
 
 returns-31 : tie.Need-returns-31
-unfolding operatorNumbered listed
+unfolding operator_numbered listed
 returns-31 c = last c.before.args.n c.match.rest
 
-pub operator-numbered-spec : {M : Type 1} → statement M
-operator-numbered-spec =
+pub operator_numbered_spec : {M : Type 1} → statement M
+operator_numbered_spec =
     tie.close
     (tie.spec
     returns

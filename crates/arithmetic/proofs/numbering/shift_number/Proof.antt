@@ -1,4 +1,4 @@
-use Rattle.arithmetic.specs.Numbering.{shiftNumber}
+use Rattle.arithmetic.specs.Numbering.{shift_number}
 use borrow.Author.Rules.{rules}
 use Rattle.arithmetic.proofs.numbering.shift_number.Statement.{statement}
 use Rattle.arithmetic.proofs.numbering.shift_number.Tie as tie
@@ -13,17 +13,17 @@ enum-told-3 : tie.Need-enum-told-3
 enum-told-3 c = search rules
 
 returns : tie.Need-returns
-unfolding shiftNumber
+unfolding shift_number
 returns c = rw c.enum_told.given.1
 
 returns-2 : tie.Need-returns-2
-unfolding shiftNumber
+unfolding shift_number
 returns-2 c = rw c.enum-told2.given.1
 
 returns-3 : tie.Need-returns-3
-unfolding shiftNumber
+unfolding shift_number
 returns-3 c = rw c.enum-told3.given.1
 
-pub shift-number-spec : {M : Type 1} → statement M
-shift-number-spec =
+pub shift_number_spec : {M : Type 1} → statement M
+shift_number_spec =
     tie.close (tie.spec enum_told enum-told-2 enum-told-3 returns returns-2 returns-3)

@@ -87,8 +87,8 @@ returns-12 : tie.Need-returns-12
 unfolding arity
 returns-12 c = rw c.enum-told12.given.1
 
-pub arity-spec : {M : Type 1} → statement M
-arity-spec =
+pub arity_spec : {M : Type 1} → statement M
+arity_spec =
     tie.close
     (tie.spec
     enum_told

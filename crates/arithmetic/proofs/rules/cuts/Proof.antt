@@ -15,5 +15,5 @@ returns-2 : tie.Need-returns-2
 unfolding cuts
 returns-2 c = rw (le-ltb c.before.args.n c.before.args.m c.if1.false)
 
-pub cuts-spec : {M : Type 1} → statement M
-cuts-spec = tie.close (tie.spec sub-result returns returns-2)
+pub cuts_spec : {M : Type 1} → statement M
+cuts_spec = tie.close (tie.spec sub-result returns returns-2)

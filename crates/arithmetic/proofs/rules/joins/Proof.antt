@@ -18,5 +18,5 @@ returns-2 c =
     let s = c.before in
     rw (ne_eqb s.args.k (s.args.x + s.args.y) (omega arith))
 
-pub joins-spec : {M : Type 1} → statement M
-joins-spec = tie.close (tie.spec returns returns-2)
+pub joins_spec : {M : Type 1} → statement M
+joins_spec = tie.close (tie.spec returns returns-2)

@@ -1,5 +1,5 @@
 use mathlib.Core.Path.{sym, ◌∙◌}
-use Rattle.arithmetic.specs.Rules.{fits, operandsFit}
+use Rattle.arithmetic.specs.Rules.{fits, operands_fit}
 use Rattle.arithmetic.proofs.RuleLaws.{taken_is}
 use borrow.Author.Rules.{rules}
 use Rattle.arithmetic.proofs.rules.operands_fit.Statement.{statement}
@@ -21,12 +21,12 @@ taken-requires : tie.Need-taken-requires
 taken-requires c κs = search rules
 
 returns : tie.Need-returns
-unfolding operandsFit
+unfolding operands_fit
 returns c =
     let s = c.before.before.before.before.before.args in
     c.taken.ensures ∙ rw (c.before.before.before.before.arity.ensures, c.before.before.before.fits2.ensures, c.before.before.fits3.ensures, c.before.fits4.ensures) (sym (taken_is s.op fits s.a s.b s.c))
 
-pub operands-fit-spec : {M : Type 1} → statement M
-operands-fit-spec =
+pub operands_fit_spec : {M : Type 1} → statement M
+operands_fit_spec =
     tie.close
     (tie.spec arity-requires fits-requires fits-requires-2 fits-requires-3 taken-requires returns)

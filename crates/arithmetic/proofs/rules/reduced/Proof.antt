@@ -18,5 +18,5 @@ returns c = rw (one_shl c.before.args.k c.if1.true)
 returns-2 : tie.Need-returns-2
 returns-2 c = sym (mod-eq_of_lt (lt_of_lt_of_le c.before.ranges.x.fits (pow_mono c.if1.false)))
 
-pub reduced-spec : {M : Type 1} → statement M
-reduced-spec = tie.close (tie.spec shl-result rem-result returns returns-2)
+pub reduced_spec : {M : Type 1} → statement M
+reduced_spec = tie.close (tie.spec shl-result rem-result returns returns-2)

@@ -1,7 +1,7 @@
 use mathlib.Core.Path.{sym, ap}
 use mathlib.Core.Bool.{◌&&◌}
-use Rattle.edition.specs.Edition.{isWidth}
-use Rattle.arithmetic.specs.Rules.{widthsHold}
+use Rattle.edition.specs.Edition.{is_width}
+use Rattle.arithmetic.specs.Rules.{widths_hold}
 use Rattle.arithmetic.proofs.RuleLaws.{taken_is}
 use borrow.Author.Rules.{rules}
 use Rattle.arithmetic.proofs.rules.widths_hold.Statement.{statement}
@@ -26,13 +26,13 @@ taken-requires : tie.Need-taken-requires
 taken-requires c κs = search rules
 
 returns : tie.Need-returns
-unfolding widthsHold
+unfolding widths_hold
 returns c =
     let s = c.before.before.before.before.before.before.args in
-    rw (c.taken.ensures, c.before.arity.ensures, c.before.before.before.before.before.is-width.ensures, c.before.before.before.before.is-width2.ensures, c.before.before.before.is-width3.ensures, c.before.before.is-width4.ensures) (ap (λ t. isWidth s.k && t) (sym (taken_is s.op (λ w. isWidth w.width) s.a s.b s.c)))
+    rw (c.taken.ensures, c.before.arity.ensures, c.before.before.before.before.before.is-width.ensures, c.before.before.before.before.is-width2.ensures, c.before.before.before.is-width3.ensures, c.before.before.is-width4.ensures) (ap (λ t. is_width s.k && t) (sym (taken_is s.op (λ w. is_width w.width) s.a s.b s.c)))
 
-pub widths-hold-spec : {M : Type 1} → statement M
-widths-hold-spec =
+pub widths_hold_spec : {M : Type 1} → statement M
+widths_hold_spec =
     tie.close
     (tie.spec
     is-width-requires

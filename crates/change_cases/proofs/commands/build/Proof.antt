@@ -39,8 +39,8 @@ same-length-2 c = search rules
 returns : tie.Need-returns
 returns c = search rules
 
-pub build-spec : {M : Type 1} → statement M
-build-spec =
+pub build_spec : {M : Type 1} → statement M
+build_spec =
     tie.close
     (tie.spec
     at-most-requires

@@ -33,8 +33,8 @@ same-length-3 c = search rules
 returns : tie.Need-returns
 returns c = search rules
 
-pub change-through-lent-spec : {M : Type 1} → statement M
-change-through-lent-spec =
+pub change_through_lent_spec : {M : Type 1} → statement M
+change_through_lent_spec =
     tie.close
     (tie.spec
     at-most-requires

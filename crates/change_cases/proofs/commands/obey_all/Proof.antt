@@ -67,8 +67,8 @@ same-length-10 c = search rules
 returns-2 : tie.Need-returns-2 invariant-loop decreases-loop
 returns-2 c = tt
 
-pub obey-all-spec : {M : Type 1} → statement M
-obey-all-spec =
+pub obey_all_spec : {M : Type 1} → statement M
+obey_all_spec =
     tie.close
     (tie.spec
     invariant-loop

@@ -24,8 +24,8 @@ print-numbers-requires-2 c κs = search rules
 returns : tie.Need-returns
 returns c = search rules
 
-pub print-lent-spec : {M : Type 1} → statement M
-print-lent-spec =
+pub print_lent_spec : {M : Type 1} → statement M
+print_lent_spec =
     tie.close
     (tie.spec
     at-most-requires

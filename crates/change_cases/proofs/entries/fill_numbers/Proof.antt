@@ -39,8 +39,8 @@ same_length c = search rules
 returns : tie.Need-returns invariant-loop decreases-loop
 returns c = tt
 
-pub fill-numbers-spec : {M : Type 1} → statement M
-fill-numbers-spec =
+pub fill_numbers_spec : {M : Type 1} → statement M
+fill_numbers_spec =
     tie.close
     (tie.spec
     invariant-loop

@@ -40,8 +40,8 @@ write-all-requires c κs = search rules
 returns : tie.Need-returns invariant-loop decreases-loop
 returns c = tt
 
-pub print-numbers-spec : {M : Type 1} → statement M
-print-numbers-spec =
+pub print_numbers_spec : {M : Type 1} → statement M
+print_numbers_spec =
     tie.close
     (tie.spec
     invariant-loop

@@ -1,9 +1,9 @@
-use Rattle.clean.proofs.ClaimLaws.{equal-exactly}
+use Rattle.clean.proofs.ClaimLaws.{equal_exactly}
 use Rattle.clean.proofs.claims.equal_exactly.Statement.{statement}
 use Rattle.clean.proofs.claims.equal_exactly.Tie as tie
 
 returns : tie.Need-returns
-returns c = equal-exactly
+returns c = equal_exactly
 
-pub equal-exactly-spec : {M : Type 1} → statement M
-equal-exactly-spec = tie.close (tie.spec returns)
+pub equal_exactly_spec : {M : Type 1} → statement M
+equal_exactly_spec = tie.close (tie.spec returns)

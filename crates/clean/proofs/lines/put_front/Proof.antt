@@ -1,8 +1,8 @@
 use native.Mathlib.Omega.{arith}
 use borrow.Author.Rules.{rules}
 use Rattle.edition.specs.Edition.{edition10}
-use Rattle.store.specs.Tables.{variablesIn}
-use Rattle.clean.proofs.LineLaws.{line-front-length, put_front}
+use Rattle.store.specs.Tables.{variables_in}
+use Rattle.clean.proofs.LineLaws.{line_front_length, put_front}
 use Rattle.clean.proofs.lines.put_front.Statement.{statement}
 use Rattle.clean.proofs.lines.put_front.Tie as tie
 
@@ -18,12 +18,12 @@ letter-of-requires c κs = search rules
 put-byte-requires-2 : tie.Need-put-byte-requires-2
 put-byte-requires-2 c κs =
     let s = c.before.before.before.before.before.before.before.before.before in
-    omega (arith, s.requires.5, line-front-length edition10 (variablesIn s.args.file.now s.args.variables.now s.args.n) s.args.heads.now s.args.bodies.now s.args.k (rw c.before.before.head_of.ensures at c.before.letter-of.ensures))
+    omega (arith, s.requires.5, line_front_length edition10 (variables_in s.args.file.now s.args.variables.now s.args.n) s.args.heads.now s.args.bodies.now s.args.k (rw c.before.before.head_of.ensures at c.before.letter-of.ensures))
 
 put-slot-requires : tie.Need-put-slot-requires
 put-slot-requires c κs =
     let s = c.before.before.before.before.before.before.before.before.before.before.before.before.before in
-    (s.requires.0, s.requires.1, s.requires.2, s.requires.3, omega arith, s.requires.4, omega (arith, s.requires.5, line-front-length edition10 (variablesIn s.args.file.now s.args.variables.now s.args.n) s.args.heads.now s.args.bodies.now s.args.k (rw c.before.before.before.before.before.before.head_of.ensures at c.before.before.before.before.before.letter-of.ensures)))
+    (s.requires.0, s.requires.1, s.requires.2, s.requires.3, omega arith, s.requires.4, omega (arith, s.requires.5, line_front_length edition10 (variables_in s.args.file.now s.args.variables.now s.args.n) s.args.heads.now s.args.bodies.now s.args.k (rw c.before.before.before.before.before.before.head_of.ensures at c.before.before.before.before.before.letter-of.ensures)))
 
 operator-of-requires : tie.Need-operator-of-requires
 operator-of-requires c κs = search rules
@@ -31,7 +31,7 @@ operator-of-requires c κs = search rules
 put-operator-requires : tie.Need-put-operator-requires
 put-operator-requires c κs =
     let s = c.before.before.before.before.before.before.before.before.before.before.before.before.before.before.before.before.before.before in
-    rw c.before.operator-of.ensures (omega (arith, s.requires.5, line-front-length edition10 (variablesIn s.args.file.now s.args.variables.now s.args.n) s.args.heads.now s.args.bodies.now s.args.k (rw c.before.before.before.before.before.before.before.before.before.before.before.head_of.ensures at c.before.before.before.before.before.before.before.before.before.before.letter-of.ensures)))
+    rw c.before.operator-of.ensures (omega (arith, s.requires.5, line_front_length edition10 (variables_in s.args.file.now s.args.variables.now s.args.n) s.args.heads.now s.args.bodies.now s.args.k (rw c.before.before.before.before.before.before.before.before.before.before.before.head_of.ensures at c.before.before.before.before.before.before.before.before.before.before.letter-of.ensures)))
 
 same_length : tie.Need-same-length
 same_length c = search rules
@@ -39,11 +39,11 @@ same_length c = search rules
 returns : tie.Need-returns
 returns c =
     let s = c.before.before.before.before.before.before.before.before.before.before.before.before.before.before.before.before.before.before.before.before.before in
-    let operator = rw c.before.before.before.before.operator-of.ensures at c.before.before.put-operator.ensures in
+    let operator = rw c.before.before.before.before.operator-of.ensures at c.before.before.put_operator.ensures in
     put_front _ _ _ _ _ (rw c.before.before.before.before.before.before.before.before.before.before.before.before.before.before.head_of.ensures at c.before.before.before.before.before.before.before.before.before.before.before.before.before.letter-of.ensures) s.requires.5 c.before.before.before.before.before.before.before.before.before.before.before.before.before.before.before.before.before.put_byte.ensures c.before.before.before.before.before.before.before.before.before.before.before.put-byte2.ensures c.before.before.before.before.before.before.before.put-slot.ensures operator
 
-pub put-front-spec : {M : Type 1} → statement M
-put-front-spec =
+pub put_front_spec : {M : Type 1} → statement M
+put_front_spec =
     tie.close
     (tie.spec
     put-byte-requires

@@ -1,5 +1,5 @@
 use borrow.Author.Rules.{rules}
-use Rattle.store.specs.Tables.{operandIn}
+use Rattle.store.specs.Tables.{operand_in}
 use Rattle.clean.proofs.lines.put_slot.Statement.{statement}
 use Rattle.clean.proofs.lines.put_slot.Tie as tie
 
@@ -10,7 +10,7 @@ body-of-requires : tie.Need-body-of-requires
 body-of-requires c κs = search rules
 
 put-operand-requires : tie.Need-put-operand-requires
-unfolding operandIn
+unfolding operand_in
 put-operand-requires c κs =
     let s = c.before.before.before.before.before in
     rw (c.before.before.head_of.ensures, c.before.body_of.ensures) (s.requires.0, s.requires.5 s.args.slot s.requires.4, s.requires.6)
@@ -19,9 +19,9 @@ same_length : tie.Need-same-length
 same_length c = search rules
 
 returns : tie.Need-returns
-unfolding operandIn
+unfolding operand_in
 returns c = rw (c.before.before.before.before.before.head_of.ensures, c.before.before.before.before.body_of.ensures) at c.before.before.put-operand.ensures
 
-pub put-slot-spec : {M : Type 1} → statement M
-put-slot-spec =
+pub put_slot_spec : {M : Type 1} → statement M
+put_slot_spec =
     tie.close (tie.spec head-of-requires body-of-requires put-operand-requires same_length returns)

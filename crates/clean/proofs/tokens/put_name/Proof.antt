@@ -1,6 +1,6 @@
 use borrow.Author.Rules.{rules}
-use Rattle.store.proofs.VariableTableLaws.{name-held, name-none}
-use Rattle.printing.proofs.PlaceLaws.{put-none}
+use Rattle.store.proofs.VariableTableLaws.{name_held, name_none}
+use Rattle.printing.proofs.PlaceLaws.{put_none}
 use Rattle.clean.proofs.tokens.put_name.Statement.{statement}
 use Rattle.clean.proofs.tokens.put_name.Tie as tie
 
@@ -20,7 +20,7 @@ put-part-requires : tie.Need-put-part-requires
 put-part-requires c κs =
     let s = c.before.before.before.before.before.before.before in
     let a = s.args in
-    rw (c.before.name-length.ensures, c.before.before.name-start.ensures) (rw (name-held a.file.now a.variables.now a.n a.i c.before.before.before.before.if1.true) at s.requires.1)
+    rw (c.before.name_length_lem.ensures, c.before.before.name-start.ensures) (rw (name_held a.file.now a.variables.now a.n a.i c.before.before.before.before.if1.true) at s.requires.1)
 
 same_length : tie.Need-same-length
 same_length c = search rules
@@ -29,15 +29,15 @@ returns : tie.Need-returns
 returns c =
     let s = c.before.before.before.before.before.before.before.before.before.before in
     let a = s.args in
-    rw (name-held a.file.now a.variables.now a.n a.i c.before.before.before.before.before.before.before.if1.true) (rw (c.before.before.before.before.name-length.ensures, c.before.before.before.before.before.name-start.ensures) at c.before.before.put-part.ensures)
+    rw (name_held a.file.now a.variables.now a.n a.i c.before.before.before.before.before.before.before.if1.true) (rw (c.before.before.before.before.name_length_lem.ensures, c.before.before.before.before.before.name-start.ensures) at c.before.before.put-part.ensures)
 
 returns-2 : tie.Need-returns-2
 returns-2 c =
     let a = c.before.before.before.args in
-    rw (name-none a.file.now a.variables.now a.n a.i c.if1.false) (put-none a.room.now a.at)
+    rw (name_none a.file.now a.variables.now a.n a.i c.if1.false) (put_none a.room.now a.at)
 
-pub put-name-spec : {M : Type 1} → statement M
-put-name-spec =
+pub put_name_spec : {M : Type 1} → statement M
+put_name_spec =
     tie.close
     (tie.spec
     mul-word

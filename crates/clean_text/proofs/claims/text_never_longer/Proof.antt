@@ -1,9 +1,9 @@
-use Rattle.clean_text.proofs.NeverLonger.{text-never-longer}
+use Rattle.clean_text.proofs.NeverLonger.{text_never_longer}
 use Rattle.clean_text.proofs.claims.text_never_longer.Statement.{statement}
 use Rattle.clean_text.proofs.claims.text_never_longer.Tie as tie
 
 returns : tie.Need-returns
-returns c = text-never-longer
+returns c = text_never_longer
 
-pub text-never-longer-spec : {M : Type 1} → statement M
-text-never-longer-spec = tie.close (tie.spec returns)
+pub text_never_longer_spec : {M : Type 1} → statement M
+text_never_longer_spec = tie.close (tie.spec returns)

@@ -8,13 +8,13 @@ use lib.ListN.{length, take, drop}
 use lib.Seq.{length-take-le}
 use borrow.Author.Rules.{rules}
 use Rattle.text.specs.declared.Class.TheVariants.{Space, Solid}
-use Rattle.text.specs.Lines.{tokensFrom}
-use Rattle.text.specs.Scan.{is_of, past, tokenFrom}
-use Rattle.text.proofs.RunLaws.{scan-bounds}
-use Rattle.text.proofs.TokenLaws.{tokens-end, tokens-done, tokens-turn, token-within}
+use Rattle.text.specs.Lines.{tokens_from}
+use Rattle.text.specs.Scan.{is_of, past, token_from}
+use Rattle.text.proofs.RunLaws.{scan_bounds}
+use Rattle.text.proofs.TokenLaws.{tokens_end, tokens_done, tokens_turn, token_within}
 use Rattle.declaration.specs.declared.Put.TheVariants.{UpTo}
 use Rattle.declaration.specs.Internal.{PutHolds}
-use Rattle.declaration.proofs.DeclareLaws.{Declaring, declaring-starts, declaring-done, declaring-fault, declaring-more}
+use Rattle.declaration.proofs.DeclareLaws.{Declaring, declaring_starts, declaring_done, declaring_fault, declaring_more}
 use Rattle.declaration.proofs.declarations.declare_all.Statement.{statement}
 use Rattle.declaration.proofs.declarations.declare_all.Tie as tie
 
@@ -36,20 +36,20 @@ below : (c : tie.Else1 invariant-loop decreases-loop) → c.before.spaces.result
 below c =
     let l = c.before.before.before.before in
     let s = l.before.before in
-    omega (arith, scan-bounds (is_of Space) (line s) l.loop.i c.before.spaces.result (omega (arith, cut s, l.loop.invariant.within)) c.before.spaces.ensures, cut s)
+    omega (arith, scan_bounds (is_of Space) (line s) l.loop.i c.before.spaces.result (omega (arith, cut s, l.loop.invariant.within)) c.before.spaces.ensures, cut s)
 
 -- it is the next token, and lies in the line
-turn : (c : tie.Else1 invariant-loop decreases-loop) → let l = c.before.before.before.before in let line = line l.before.before in let start = c.before.spaces.result in let end = past (is_of Solid) line start in tokensFrom true l.loop.i (drop l.loop.i line) ≡ tokenFrom line start ∷ tokensFrom true end (drop end line)
+turn : (c : tie.Else1 invariant-loop decreases-loop) → let l = c.before.before.before.before in let line = line l.before.before in let start = c.before.spaces.result in let end = past (is_of Solid) line start in tokens_from true l.loop.i (drop l.loop.i line) ≡ token_from line start ∷ tokens_from true end (drop end line)
 turn c =
     let l = c.before.before.before.before in
     let s = l.before.before in
-    tokens-turn (line s) l.loop.i c.before.spaces.result c.before.spaces.ensures (omega (arith, below c, cut s)) _ refl
+    tokens_turn (line s) l.loop.i c.before.spaces.result c.before.spaces.ensures (omega (arith, below c, cut s)) _ refl
 
 turned : (c : tie.Else1 invariant-loop decreases-loop) → let l = c.before.before.before.before in let s = l.before.before in let end = past (is_of Solid) (line s) c.before.spaces.result in (l.loop.i < end) × (end ≤ s.args.stop)
 turned c =
     let l = c.before.before.before.before in
     let s = l.before.before in
-    let w = token-within (line s) l.loop.i c.before.spaces.result c.before.spaces.ensures (omega (arith, below c, cut s)) _ refl in
+    let w = token_within (line s) l.loop.i c.before.spaces.result c.before.spaces.ensures (omega (arith, below c, cut s)) _ refl in
     (omega (arith, w.0, w.1), omega (arith, w.2, cut s))
 
 -- what a declaration that was put into the table leaves
@@ -58,7 +58,7 @@ puts c = rw c.before.end.given.1 at c.before.before.before.declare-next.ensures.
 
 loop-holds : tie.Need-loop-init invariant-loop decreases-loop
 loop-holds c = let s = c.before in
-    declaring-starts s.args.file.now s.args.stop s.args.at s.args.variables.now s.args.n s.requires.0 s.requires.3 s.requires.4 s.requires.5
+    declaring_starts s.args.file.now s.args.stop s.args.at s.args.variables.now s.args.n s.requires.0 s.requires.3 s.requires.4 s.requires.5
 
 slice-aggregate-spaces : tie.Need-slice-aggregate-spaces invariant-loop decreases-loop
 slice-aggregate-spaces c = sym (cut c.before.before.before.before)
@@ -68,7 +68,7 @@ spaces-requires c κs = omega (arith, cut c.before.before.before.before)
 
 returns : tie.Need-returns invariant-loop decreases-loop
 returns c = let i = c.before.before.before.before.loop.invariant in
-    (declaring-done i (tokens-done (line c.before.before.before.before.before.before) _ _ c.before.spaces.ensures (c.if1.true ∙ sym (cut c.before.before.before.before.before.before))), i.whole, (i.few, i.held))
+    (declaring_done i (tokens_done (line c.before.before.before.before.before.before) _ _ c.before.spaces.ensures (c.if1.true ∙ sym (cut c.before.before.before.before.before.before))), i.whole, (i.few, i.held))
 
 declare-next-requires : tie.Need-declare-next-requires invariant-loop decreases-loop
 declare-next-requires c κs = let s = c.before.before.before.before.before.before.before in
@@ -80,7 +80,7 @@ enum-known-r c = search rules
 
 returns-2 : tie.Need-returns-2 invariant-loop decreases-loop
 returns-2 c = let d = c.before.before.before.declare-next.ensures in
-    (declaring-fault c.before.before.before.before.before.before.before.before.before.loop.invariant _ _ (turn c.before.before.before.before.before) _ (λ e. rw c.before.r.given.1 at (d.0 e)), d.2, tt)
+    (declaring_fault c.before.before.before.before.before.before.before.before.before.loop.invariant _ _ (turn c.before.before.before.before.before) _ (λ e. rw c.before.r.given.1 at (d.0 e)), d.2, tt)
 
 enum-known-end : tie.Need-enum-known-end invariant-loop decreases-loop
 enum-known-end c = search rules
@@ -94,14 +94,14 @@ loop-less c = omega (arith, puts (c), turned c.before.before.before.before.befor
 loop-again : tie.Need-loop-preserved invariant-loop decreases-loop
 loop-again c = let d = c.before.before.before.declare-next.ensures in
     let h = puts (c) in
-    rw h.0 (declaring-more c.before.before.before.before.before.before.before.before.before.loop.invariant _ _ _ (turn c.before.before.before.before.before) (turned c.before.before.before.before.before).1 h.1 d.2 h.2 (λ e. rw c.before.end.given.1 at (d.0 e)))
+    rw h.0 (declaring_more c.before.before.before.before.before.before.before.before.before.loop.invariant _ _ _ (turn c.before.before.before.before.before) (turned c.before.before.before.before.before).1 h.1 d.2 h.2 (λ e. rw c.before.end.given.1 at (d.0 e)))
 
 returns-3 : tie.Need-returns-3 invariant-loop decreases-loop
 returns-3 c = let i = c.before.loop.invariant in
-    (declaring-done i (tokens-end (line c.before.before.before) _ (omega (arith, cut c.before.before.before))), i.whole, (i.few, i.held))
+    (declaring_done i (tokens_end (line c.before.before.before) _ (omega (arith, cut c.before.before.before))), i.whole, (i.few, i.held))
 
-pub declare-all-spec : {M : Type 1} → statement M
-declare-all-spec =
+pub declare_all_spec : {M : Type 1} → statement M
+declare_all_spec =
     tie.close
     (tie.spec
     invariant-loop

@@ -7,20 +7,20 @@ use native.Mathlib.Omega.{arith}
 use lib.ListN.{length, get_or, take, drop}
 use lib.Seq.{length-take-le}
 use Rattle.edition.specs.declared.Edition.{Edition}
-use Rattle.edition.specs.Edition.{edition10, maxVariables, maxNameBytes, maxWidth}
+use Rattle.edition.specs.Edition.{edition10, max_variables, max_name_bytes, max_width}
 use Rattle.refusal.proofs.BoolLaws.{passed, failed}
-use Rattle.text.specs.Bytes.{isLetter}
+use Rattle.text.specs.Bytes.{is_letter}
 use Rattle.text.specs.declared.Class.TheVariants.{NameByte, Solid}
-use Rattle.text.specs.Scan.{is_of, past, tokenFrom}
+use Rattle.text.specs.Scan.{is_of, past, token_from}
 use Rattle.text.proofs.RunLaws.{strict_on}
-use Rattle.text.proofs.FirstByteLaws.{name-solid, name-bounds}
+use Rattle.text.proofs.FirstByteLaws.{name_solid, name_bounds}
 use Rattle.constraint.specs.File.{Variable}
 use Rattle.constraint.specs.Read.{declare}
-use Rattle.store.specs.Tables.{lengthUnit, variablesIn}
-use Rattle.store.proofs.SearchLaws.{length-with-name}
-use Rattle.declaration.specs.Internal.{declarationResult}
-use Rattle.declaration.proofs.NewNameLaws.{FreshName, fresh-is, declared-not, declared-by, width_fits}
-use Rattle.declaration.proofs.DeclareLaws.{put-fits, put-variables, put-searchable}
+use Rattle.store.specs.Tables.{length_unit, variables_in}
+use Rattle.store.proofs.SearchLaws.{length_with_name}
+use Rattle.declaration.specs.Internal.{declaration_result}
+use Rattle.declaration.proofs.NewNameLaws.{FreshName, fresh_is, declared_not, declared_by, width_fits}
+use Rattle.declaration.proofs.DeclareLaws.{put_fits, put_variables, put_searchable}
 use borrow.Author.Rules.{rules}
 use Rattle.declaration.proofs.declarations.declare_next.Statement.{statement}
 use Rattle.declaration.proofs.declarations.declare_next.Tie as tie
@@ -36,35 +36,35 @@ starts : (s : tie.Start) → s.args.at < length (line s)
 starts s = omega (arith, cut s, s.requires.0)
 
 abbrev variables : tie.Start → List Variable
-variables s = variablesIn s.args.file.now s.args.variables.now s.args.n
+variables s = variables_in s.args.file.now s.args.variables.now s.args.n
 
 -- with a letter, and its name stops at the colon
-letter : (c : tie.Else1) → let s = c.before.before.before.before.before in isLetter (get_or (line s) s.args.at 0) ≡ true
+letter : (c : tie.Else1) → let s = c.before.before.before.before.before in is_letter (get_or (line s) s.args.at 0) ≡ true
 letter c = passed c.before.is-letter.ensures c.if1.false
 
-bounds : (c : tie.After-name-at) → let s = c.before.before.before.before.before.before in let colon = c.name-at.result.stop in (s.args.at ≤ colon) × (colon ≤ s.args.stop) × (length (take colon (line s)) ≡ colon)
+bounds : (c : tie.After-name-at) → let s = c.before.before.before.before.before.before in let colon = c.name_at_lem.result.stop in (s.args.at ≤ colon) × (colon ≤ s.args.stop) × (length (take colon (line s)) ≡ colon)
 bounds c =
     let s = c.before.before.before.before.before.before in
-    let b = name-bounds (line s) s.args.at (starts s) (letter c.before) c.name-at.result.stop c.name-at.ensures.0 in
-    (omega (arith, b.0), omega (arith, b.1, cut s), length-take-le c.name-at.result.stop (line s) b.1)
+    let b = name_bounds (line s) s.args.at (starts s) (letter c.before) c.name_at_lem.result.stop c.name_at_lem.ensures.0 in
+    (omega (arith, b.0), omega (arith, b.1, cut s), length-take-le c.name_at_lem.result.stop (line s) b.1)
 
 abbrev name : tie.After-name-at → List ℕ
-name c = let s = c.before.before.before.before.before.before in drop s.args.at (take c.name-at.result.stop (line s))
+name c = let s = c.before.before.before.before.before.before in drop s.args.at (take c.name_at_lem.result.stop (line s))
 
 -- what the calls answered settles the declaration
-says : (c : tie.After-declare) → let n = c.before.before.before.before in let s = n.before.before.before.before.before.before in (e : Edition) → declarationResult (tokenFrom (line s) s.args.at) (name n) c.declare.result ≡ declare e (variables s) (tokenFrom (line s) s.args.at)
+says : (c : tie.After-declare) → let n = c.before.before.before.before in let s = n.before.before.before.before.before.before in (e : Edition) → declaration_result (token_from (line s) s.args.at) (name n) c.declare.result ≡ declare e (variables s) (token_from (line s) s.args.at)
 says c e =
     let n = c.before.before.before.before in
     let s = n.before.before.before.before.before.before in
-    rw (c.declare.ensures e) (declared-by e (variables s) (line s) s.args.at (starts s) (letter n.before) n.name-at.result.stop n.name-at.ensures.0 _ c.before.before.before.type_at.ensures.0)
+    rw (c.declare.ensures e) (declared_by e (variables s) (line s) s.args.at (starts s) (letter n.before) n.name_at_lem.result.stop n.name_at_lem.ensures.0 _ c.before.before.before.type_at.ensures.0)
 
 -- the name is fresh where the declaration says so
 fresh : (c : tie.After-known-told2) → let t = c.before.before.before.before.before.before in let n = t.before in FreshName (variables n.before.before.before.before.before.before) (name n) t.type_at.result.kind c.before.width.given.0.0
 fresh c =
     let n = c.before.before.before.before.before.before.before in
-    fresh-is edition10 (variables n.before.before.before.before.before.before) (name n) _ _ (rw c.before.width.given.1 at (c.before.before.before.declare.ensures edition10))
+    fresh_is edition10 (variables n.before.before.before.before.before.before) (name n) _ _ (rw c.before.width.given.1 at (c.before.before.before.declare.ensures edition10))
 
-narrow : (c : tie.After-known-told2) → c.before.width.given.0.0 ≤ maxWidth
+narrow : (c : tie.After-known-told2) → c.before.width.given.0.0 ≤ max_width
 narrow c = width_fits _ _ c.before.before.before.before.before.before.type_at.ensures.0 _ (fresh c).type-inv
 
 -- its token ends behind the type
@@ -73,14 +73,14 @@ ends c =
     let t = c.before.before.before.before.before.before in
     let n = t.before in
     let s = n.before.before.before.before.before.before in
-    rw (fresh c).type-inv at t.type_at.ensures.1 ∙ strict_on (is_of NameByte) (is_of Solid) name-solid (line s) s.args.at n.name-at.result.stop (omega (arith, starts s)) n.name-at.ensures.0
+    rw (fresh c).type-inv at t.type_at.ensures.1 ∙ strict_on (is_of NameByte) (is_of Solid) name_solid (line s) s.args.at n.name_at_lem.result.stop (omega (arith, starts s)) n.name_at_lem.ensures.0
 
-fits : (c : tie.After-known-told2) → let n = c.before.before.before.before.before.before.before in let s = n.before.before.before.before.before.before in (s.args.n < maxVariables) × (s.args.at < lengthUnit) × (n.name-at.result.stop - s.args.at ≤ maxNameBytes)
+fits : (c : tie.After-known-told2) → let n = c.before.before.before.before.before.before.before in let s = n.before.before.before.before.before.before in (s.args.n < max_variables) × (s.args.at < length_unit) × (n.name_at_lem.result.stop - s.args.at ≤ max_name_bytes)
 fits c =
     let n = c.before.before.before.before.before.before.before in
     let s = n.before.before.before.before.before.before in
     let b = bounds n in
-    put-fits s.args.file.now s.args.stop s.args.at n.name-at.result.stop s.requires.0 b.0 b.1 s.requires.1 s.requires.2 s.args.variables.now s.args.n _ 0 _ s.requires.5 s.requires.4 (fresh c)
+    put_fits s.args.file.now s.args.stop s.args.at n.name_at_lem.result.stop s.requires.0 b.0 b.1 s.requires.1 s.requires.2 s.args.variables.now s.args.n _ 0 _ s.requires.5 s.requires.4 (fresh c)
 
 slice-aggregate-line : tie.Need-slice-aggregate-line
 slice-aggregate-line c = sym (cut c.before.before)
@@ -96,7 +96,7 @@ refusal-requires c κs = search rules
 
 returns : tie.Need-returns
 returns c = let s = c.before.before.before.before.before.before in
-    (λ e. rw (c.refusal.ensures, ← declared-not e (variables s) (line s) s.args.at (starts s) (failed c.before.before.is-letter.ensures c.before.if1.true)), tt, s.requires.4)
+    (λ e. rw (c.refusal.ensures, ← declared_not e (variables s) (line s) s.args.at (starts s) (failed c.before.before.is-letter.ensures c.before.if1.true)), tt, s.requires.4)
 
 name-at-requires : tie.Need-name-at-requires
 name-at-requires c κs = (starts c.before.before.before.before.before, letter c)
@@ -110,7 +110,7 @@ slice-aggregate-declare c = sym (bounds c.before.before.before).2
 declare-requires : tie.Need-declare-requires
 declare-requires c κs = let s = c.before.before.before.before.before.before.before.before.before in
     let n = c.before.before.before in
-    (omega (arith, bounds n), s.requires.3, s.requires.5, n.name-at.ensures.1)
+    (omega (arith, bounds n), s.requires.3, s.requires.5, n.name_at_lem.ensures.1)
 
 enum-known-number : tie.Need-enum-known-number
 enum-known-number c = search rules
@@ -135,11 +135,11 @@ returns-3 : tie.Need-returns-3
 returns-3 c = let s = c.before.before.before.before.before.before.before.before.before.before.before.before.before.before.before in
     let k = c.before.before in
     let b = bounds c.before.before.before.before.before.before.before.before.before in
-    let h = c.before.before.before.before.before.before.before.before.before.name-at.ensures.1 in
-    (λ e. rw (c.add.ensures, put-variables s.args.file.now s.args.stop s.args.at _ s.requires.0 b.0 b.1 s.requires.1 s.requires.2 s.args.variables.now s.args.n _ _ _ s.requires.5 s.requires.4 (fresh k) (narrow k) h, ← rw c.before.before.before.width.given.1 at (says c.before.before.before.before.before e)), (ends k, (fits k).0, rw c.add.ensures (put-searchable s.args.file.now s.args.stop s.args.at _ s.requires.0 b.0 b.1 s.requires.1 s.requires.2 s.args.variables.now s.args.n _ _ _ s.requires.5 s.requires.4 (fresh k) (narrow k) h)), rw (c.add.ensures, length-with-name) s.requires.4)
+    let h = c.before.before.before.before.before.before.before.before.before.name_at_lem.ensures.1 in
+    (λ e. rw (c.add.ensures, put_variables s.args.file.now s.args.stop s.args.at _ s.requires.0 b.0 b.1 s.requires.1 s.requires.2 s.args.variables.now s.args.n _ _ _ s.requires.5 s.requires.4 (fresh k) (narrow k) h, ← rw c.before.before.before.width.given.1 at (says c.before.before.before.before.before e)), (ends k, (fits k).0, rw c.add.ensures (put_searchable s.args.file.now s.args.stop s.args.at _ s.requires.0 b.0 b.1 s.requires.1 s.requires.2 s.args.variables.now s.args.n _ _ _ s.requires.5 s.requires.4 (fresh k) (narrow k) h)), rw (c.add.ensures, length_with_name) s.requires.4)
 
-pub declare-next-spec : {M : Type 1} → statement M
-declare-next-spec =
+pub declare_next_spec : {M : Type 1} → statement M
+declare_next_spec =
     tie.close
     (tie.spec
     slice-aggregate-line

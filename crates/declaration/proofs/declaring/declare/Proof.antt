@@ -22,9 +22,9 @@ returns-2 : tie.Need-returns-2
 returns-2 c = λ e. rw c.enum-told2.given.1
 
 returns-3 : tie.Need-returns-3
-returns-3 c = λ e. rw c.before.before.kind.given.1 (c.new-name.ensures e)
+returns-3 c = λ e. rw c.before.before.kind.given.1 (c.new_name_lem.ensures e)
 
-pub declare-spec : {M : Type 1} → statement M
-declare-spec =
+pub declare_spec : {M : Type 1} → statement M
+declare_spec =
     tie.close
     (tie.spec enum_told enum-told-2 enum-known-kind new-name-requires returns returns-2 returns-3)

@@ -38,8 +38,8 @@ returns-4 c = search rules
 returns-5 : tie.Need-returns-5
 returns-5 c = rw (c.before.before.before.before.before.major.given.1, c.before.before.minor.given.1) c.edition-numbered.ensures
 
-pub edition-of-spec : {M : Type 1} → statement M
-edition-of-spec =
+pub edition_of_spec : {M : Type 1} → statement M
+edition_of_spec =
     tie.close
     (tie.spec
     enum_told

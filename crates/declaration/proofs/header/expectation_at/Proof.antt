@@ -1,5 +1,5 @@
 use mathlib.Core.Path.{sym, ◌∙◌}
-use Rattle.constraint.specs.Read.{expectationOf}
+use Rattle.constraint.specs.Read.{expectation_of}
 use borrow.Author.Rules.{rules}
 use Rattle.declaration.proofs.header.expectation_at.Statement.{statement}
 use Rattle.declaration.proofs.header.expectation_at.Tie as tie
@@ -11,7 +11,7 @@ is-word-requires : tie.Need-is-word-requires
 is-word-requires c κs = search rules
 
 returns : tie.Need-returns
-unfolding expectationOf
+unfolding expectation_of
 returns c = rw (sym c.before.is_IsWord.ensures ∙ c.if1.true)
 
 slice-aggregate-is-word-2 : tie.Need-slice-aggregate-is-word-2
@@ -21,15 +21,15 @@ is-word-requires-2 : tie.Need-is-word-requires-2
 is-word-requires-2 c κs = search rules
 
 returns-2 : tie.Need-returns-2
-unfolding expectationOf
+unfolding expectation_of
 returns-2 c = rw (sym c.before.before.before.before.is_IsWord.ensures ∙ c.before.before.before.if1.false, sym c.before.is-word2.ensures ∙ c.if2.true)
 
 returns-3 : tie.Need-returns-3
-unfolding expectationOf
+unfolding expectation_of
 returns-3 c = rw (sym c.before.before.before.before.is_IsWord.ensures ∙ c.before.before.before.if1.false, sym c.before.is-word2.ensures ∙ c.if2.false)
 
-pub expectation-at-spec : {M : Type 1} → statement M
-expectation-at-spec =
+pub expectation_at_spec : {M : Type 1} → statement M
+expectation_at_spec =
     tie.close
     (tie.spec
     slice-aggregate-is-word

@@ -8,13 +8,13 @@ use lib.ListN.{length, take, drop}
 use lib.Seq.{length-take-le}
 use borrow.Author.Rules.{rules}
 use Rattle.refusal.proofs.BoolLaws.{passed, failed}
-use Rattle.text.specs.Lines.{tokensFrom}
-use Rattle.text.specs.Scan.{tokenAt, line_at}
+use Rattle.text.specs.Lines.{tokens_from}
+use Rattle.text.specs.Scan.{token_at, line_at}
 use Rattle.store.specs.Tables.{Store}
-use Rattle.store.specs.Progress.{storedFile}
+use Rattle.store.specs.Progress.{stored_file}
 use Rattle.declaration.specs.declared.HeaderToken.{HeaderToken}
-use Rattle.declaration.specs.Internal.{tokenResult, readHeaderLine}
-use Rattle.declaration.proofs.HeaderLaws.{header-late, header-again, header-missing, header-token}
+use Rattle.declaration.specs.Internal.{token_result, read_header_line}
+use Rattle.declaration.proofs.HeaderLaws.{header_late, header_again, header_missing, header_token_lem}
 use Rattle.declaration.proofs.header.header_line.Statement.{statement}
 use Rattle.declaration.proofs.header.header_line.Tie as tie
 
@@ -25,10 +25,10 @@ within c =
     (w.1, w.2, length-take-le c.t.given.0.0.stop c.before.before.before.before.before.before.before.before.args.text.now w.2)
 
 -- the line, once its token is read
-said : (c : tie.After-token-at) → let t = c.before.before.before.t.given.0.0 in let a = c.before.before.before.before.before.before.before.before.before.before.before.args in (bytes : List ℕ) (s : Store) (next : ℕ) (w : HeaderToken) → c.token-at.result ≡ w → tokenResult (tokenAt (take t.stop a.text.now) t.start) (tokensFrom true t.stop (drop t.stop a.text.now)) (storedFile bytes s a.p) w ≡ readHeaderLine a.line (storedFile bytes s a.p) (line_at a.text.now a.at next)
+said : (c : tie.After-token-at) → let t = c.before.before.before.t.given.0.0 in let a = c.before.before.before.before.before.before.before.before.before.before.before.args in (bytes : List ℕ) (s : Store) (next : ℕ) (w : HeaderToken) → c.token_at_lem.result ≡ w → token_result (token_at (take t.stop a.text.now) t.start) (tokens_from true t.stop (drop t.stop a.text.now)) (stored_file bytes s a.p) w ≡ read_header_line a.line (stored_file bytes s a.p) (line_at a.text.now a.at next)
 said c bytes s next w q =
     let a = c.before.before.before.before.before.before.before.before.before.before.before.args in
-    header-token a.text.now a.at bytes s a.p next c.before.before.before.before.before.before.before.before.if1.false _ _ (rw c.before.before.before.t.given.1 at c.before.before.before.before.before.next-token.ensures.0) a.line (passed (c.before.before.before.before.before.before.before.is-first.ensures bytes s) c.before.before.before.before.before.before.if2.false) w (sym c.token-at.ensures ∙ q)
+    header_token_lem a.text.now a.at bytes s a.p next c.before.before.before.before.before.before.before.before.if1.false _ _ (rw c.before.before.before.t.given.1 at c.before.before.before.before.before.next-token.ensures.0) a.line (passed (c.before.before.before.before.before.before.before.is-first.ensures bytes s) c.before.before.before.before.before.before.if2.false) w (sym c.token_at_lem.ensures ∙ q)
 
 refusal-requires : tie.Need-refusal-requires
 refusal-requires c κs = search rules
@@ -36,7 +36,7 @@ refusal-requires c κs = search rules
 returns : tie.Need-returns
 returns c =
     let a = c.before.before.before.before.args in
-    (λ bytes t next. rw c.refusal.ensures (header-late a.text.now a.at bytes t a.p next a.line c.before.if1.true), tt)
+    (λ bytes t next. rw c.refusal.ensures (header_late a.text.now a.at bytes t a.p next a.line c.before.if1.true), tt)
 
 is-first-requires : tie.Need-is-first-requires
 is-first-requires c κs = search rules
@@ -47,7 +47,7 @@ refusal-requires-2 c κs = search rules
 returns-2 : tie.Need-returns-2
 returns-2 c =
     let a = c.before.before.before.before.before.before.args in
-    (λ bytes t next. rw c.refusal2.ensures (header-again a.text.now a.at bytes t a.p next c.before.before.before.if1.false a.line (failed (c.before.before.is-first.ensures bytes t) c.before.if2.true)), tt)
+    (λ bytes t next. rw c.refusal2.ensures (header_again a.text.now a.at bytes t a.p next c.before.before.before.if1.false a.line (failed (c.before.before.is-first.ensures bytes t) c.before.if2.true)), tt)
 
 add-next : tie.Need-overflow-add-next
 add-next c = search rules
@@ -91,7 +91,7 @@ unless-more-requires-2 c κs = (within c.before.before.before.before.before.befo
 returns-3 : tie.Need-returns-3
 returns-3 c =
     let s = c.before.before.before.before.before.before.before.before.before in
-    (λ bytes t next. rw c.refusal3.ensures (header-missing s.args.text.now s.args.at bytes t s.args.p next c.before.before.before.before.before.before.if1.false s.args.line (passed (c.before.before.before.before.before.is-first.ensures bytes t) c.before.before.before.before.if2.false) (le_of_lt s.requires) (rw c.before.enum_told.given.1 at c.before.before.before.next-token.ensures.0)), tt)
+    (λ bytes t next. rw c.refusal3.ensures (header_missing s.args.text.now s.args.at bytes t s.args.p next c.before.before.before.before.before.before.if1.false s.args.line (passed (c.before.before.before.before.before.is-first.ensures bytes t) c.before.before.before.before.if2.false) (le_of_lt s.requires) (rw c.before.enum_told.given.1 at c.before.before.before.next-token.ensures.0)), tt)
 
 returns-4 : tie.Need-returns-4
 returns-4 c = (λ bytes t next. rw c.refusal4.ensures (said c.before.before.before.before bytes t next _ c.before.before.number.given.1), tt)
@@ -102,8 +102,8 @@ returns-5 c = (λ bytes t next. c.unless-more.ensures.0 bytes t _ ∙ said c.bef
 returns-6 : tie.Need-returns-6
 returns-6 c = (λ bytes t next. c.unless-more2.ensures.0 bytes t _ ∙ said c.before.before.before.before bytes t next _ c.before.before.n.given.1, c.unless-more2.ensures.1 tt)
 
-pub header-line-spec : {M : Type 1} → statement M
-header-line-spec =
+pub header_line_spec : {M : Type 1} → statement M
+header_line_spec =
     tie.close
     (tie.spec
     refusal-requires

@@ -32,8 +32,8 @@ returns-3 c = λ bytes t. rw (c.before.before.enum-told4.given.1, c.enum-told5.g
 returns-4 : tie.Need-returns-4
 returns-4 c = λ bytes t. rw (c.before.before.enum-told4.given.1, c.enum-told6.given.1)
 
-pub is-first-spec : {M : Type 1} → statement M
-is-first-spec =
+pub is_first_spec : {M : Type 1} → statement M
+is_first_spec =
     tie.close
     (tie.spec
     enum_told

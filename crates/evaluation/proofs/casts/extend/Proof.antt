@@ -19,5 +19,5 @@ returns-2 : tie.Need-returns-2
 unfolding extended
 returns-2 c = rw c.enum-told2.given.1
 
-pub extend-spec : {M : Type 1} → statement M
-extend-spec = tie.close (tie.spec enum_told sign-extend-requires enum-told-2 returns returns-2)
+pub extend_spec : {M : Type 1} → statement M
+extend_spec = tie.close (tie.spec enum_told sign-extend-requires enum-told-2 returns returns-2)

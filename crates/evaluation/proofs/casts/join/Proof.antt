@@ -1,12 +1,12 @@
 use Rattle.std.proofs.Common.{◌≡◌, ℕ, ◌+◌, ◌*◌, ◌%◌, ◌^◌, ◌<◌, ◌≤◌, shl_exact, rules}
 use lib.Bits.{bit_or, or_shifted}
-use Rattle.edition.specs.Word.{wordBits}
+use Rattle.edition.specs.Word.{word_bits}
 use Rattle.evaluation.proofs.casts.join.Statement.{statement}
 use Rattle.evaluation.proofs.casts.join.Tie as tie
 
 -- the bits of b below those of a, within a word
-below : (x y a b : ℕ) → a < 2 ^ x → b < 2 ^ y → x + y ≤ wordBits → bit_or (a * 2 ^ y % 2 ^ wordBits) b ≡ a * 2 ^ y + b
-below x y a b ha hb h = rw (shl_exact x y wordBits ha h) (or_shifted a y b hb)
+below : (x y a b : ℕ) → a < 2 ^ x → b < 2 ^ y → x + y ≤ word_bits → bit_or (a * 2 ^ y % 2 ^ word_bits) b ≡ a * 2 ^ y + b
+below x y a b ha hb h = rw (shl_exact x y word_bits ha h) (or_shifted a y b hb)
 
 shl-result : tie.Need-overflow-shl-result
 shl-result c = search rules
@@ -14,5 +14,5 @@ shl-result c = search rules
 returns : tie.Need-returns
 returns c = below c.args.x c.args.y c.args.a c.args.b c.requires.bound c.requires.bound₂ c.requires.most
 
-pub join-spec : {M : Type 1} → statement M
-join-spec = tie.close (tie.spec shl-result returns)
+pub join_spec : {M : Type 1} → statement M
+join_spec = tie.close (tie.spec shl-result returns)

@@ -1,5 +1,5 @@
 use Rattle.std.proofs.Common.{◌^◌, ◌≤◌, le_of_lt, arith, pow_mono, rules}
-use Rattle.arithmetic.proofs.SignedLaws.{sext_low, sext-high}
+use Rattle.arithmetic.proofs.SignedLaws.{sext_low, sext_high}
 use Rattle.evaluation.proofs.casts.sign_extend.Statement.{statement}
 use Rattle.evaluation.proofs.casts.sign_extend.Tie as tie
 
@@ -29,9 +29,9 @@ returns c =
 returns-2 : tie.Need-returns-2
 returns-2 c =
     let s = c.before.before.before.before in
-    rw (c.mask2.ensures, c.before.mask.ensures) (sext-high s.args.x s.args.k s.args.a (le_of_lt s.requires.wider) (omega arith) s.requires.bound)
+    rw (c.mask2.ensures, c.before.mask.ensures) (sext_high s.args.x s.args.k s.args.a (le_of_lt s.requires.wider) (omega arith) s.requires.bound)
 
-pub sign-extend-spec : {M : Type 1} → statement M
-sign-extend-spec =
+pub sign_extend_spec : {M : Type 1} → statement M
+sign_extend_spec =
     tie.close
     (tie.spec top-requires mask-requires mask-requires-2 sub-result sub-result-2 returns returns-2)

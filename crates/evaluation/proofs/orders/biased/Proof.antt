@@ -1,5 +1,5 @@
 use Rattle.std.proofs.Common.{◌+◌, ◌-◌, ◌^◌, rules}
-use Rattle.arithmetic.proofs.Powers.{mod-word}
+use Rattle.arithmetic.proofs.Powers.{mod_word}
 use Rattle.evaluation.proofs.orders.biased.Statement.{statement}
 use Rattle.evaluation.proofs.orders.biased.Tie as tie
 
@@ -15,7 +15,7 @@ low-requires c κs = search rules
 returns : tie.Need-returns
 returns c =
     let s = c.before.before.before in
-    rw (c.low.ensures, c.before.wrapping-add-u64.ensures, c.before.before.top.ensures) (mod-word s.args.k (s.args.a + 2 ^ (s.args.k - 1)) s.requires.most)
+    rw (c.low.ensures, c.before.wrapping-add-u64.ensures, c.before.before.top.ensures) (mod_word s.args.k (s.args.a + 2 ^ (s.args.k - 1)) s.requires.most)
 
-pub biased-spec : {M : Type 1} → statement M
-biased-spec = tie.close (tie.spec top-requires wrapping-add-u64-requires low-requires returns)
+pub biased_spec : {M : Type 1} → statement M
+biased_spec = tie.close (tie.spec top-requires wrapping-add-u64-requires low-requires returns)

@@ -88,8 +88,8 @@ returns-9 c = let s = c.before.before.before.before in rw (c.before.before.enum-
 returns-10 : tie.Need-returns-10
 returns-10 c = let s = c.before.before.before.before in rw (c.before.before.enum-told10.given.1, c.biased8.ensures, c.before.biased7.ensures) (sym (compared_is s.args.k s.args.a s.args.b s.requires.least s.requires.bound s.requires.bound₂ Sgt))
 
-pub compare-spec : {M : Type 1} → statement M
-compare-spec =
+pub compare_spec : {M : Type 1} → statement M
+compare_spec =
     tie.close
     (tie.spec
     enum_told

@@ -43,8 +43,8 @@ returns-3 c = rw c.before.enum-told3.given.1 c.signed_quotient.ensures
 returns-4 : tie.Need-returns-4
 returns-4 c = rw c.before.enum-told4.given.1 c.signed-remainder.ensures
 
-pub divide-spec : {M : Type 1} → statement M
-divide-spec =
+pub divide_spec : {M : Type 1} → statement M
+divide_spec =
     tie.close
     (tie.spec
     enum_told

@@ -1,6 +1,6 @@
 use native.Mathlib.Nat.{mod-le}
-use Rattle.arithmetic.proofs.SignedLaws.{magnitude-pos, within-magnitude}
-use Rattle.arithmetic.proofs.DivisionLaws.{srem-is}
+use Rattle.arithmetic.proofs.SignedLaws.{magnitude_pos, within_magnitude}
+use Rattle.arithmetic.proofs.DivisionLaws.{srem_is}
 use Rattle.std.proofs.Common.{rules}
 use Rattle.evaluation.proofs.quotients.signed_remainder.Statement.{statement}
 use Rattle.evaluation.proofs.quotients.signed_remainder.Tie as tie
@@ -17,7 +17,7 @@ magnitude-requires-2 c κs = search rules
 rem-with-sign : tie.Need-nonzero-rem-with-sign
 rem-with-sign c =
     let s = c.before.before.before in
-    rw c.magnitude2.ensures (magnitude-pos s.args.k s.args.b s.requires.0.bound₂ s.requires.1)
+    rw c.magnitude2.ensures (magnitude_pos s.args.k s.args.b s.requires.0.bound₂ s.requires.1)
 
 with-sign-requires : tie.Need-with-sign-requires
 with-sign-requires c κs =
@@ -25,14 +25,14 @@ with-sign-requires c κs =
     record {
       least = s.requires.0.least;
       most = s.requires.0.most;
-      bound = within-magnitude s.args.k s.args.a _ s.requires.0.least s.requires.0.bound (rw c.before.magnitude.ensures (mod-le _ _));
+      bound = within_magnitude s.args.k s.args.a _ s.requires.0.least s.requires.0.bound (rw c.before.magnitude.ensures (mod-le _ _));
     }
 
 returns : tie.Need-returns
 returns c =
     let s = c.before.before.before.before in
-    rw (c.with-sign.ensures, c.before.before.before.top.ensures, c.before.before.magnitude.ensures, c.before.magnitude2.ensures) (srem-is s.args.k s.args.a s.args.b s.requires.0.bound s.requires.0.bound₂)
+    rw (c.with-sign.ensures, c.before.before.before.top.ensures, c.before.before.magnitude.ensures, c.before.magnitude2.ensures) (srem_is s.args.k s.args.a s.args.b s.requires.0.bound s.requires.0.bound₂)
 
-pub signed-remainder-spec : {M : Type 1} → statement M
-signed-remainder-spec =
+pub signed_remainder_spec : {M : Type 1} → statement M
+signed_remainder_spec =
     tie.close (tie.spec top-requires magnitude-requires magnitude-requires-2 rem-with-sign with-sign-requires returns)

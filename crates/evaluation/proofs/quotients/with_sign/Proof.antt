@@ -16,5 +16,5 @@ returns-2 c =
     let s = c.before.before in
     rw c.before.if1.false (c.compute.ensures ∙ minus_is s.args.k s.args.n s.requires.bound)
 
-pub with-sign-spec : {M : Type 1} → statement M
-with-sign-spec = tie.close (tie.spec compute-requires returns returns-2)
+pub with_sign_spec : {M : Type 1} → statement M
+with_sign_spec = tie.close (tie.spec compute-requires returns returns-2)

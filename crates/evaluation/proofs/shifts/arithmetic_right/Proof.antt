@@ -1,6 +1,6 @@
 use Rattle.std.proofs.Common.{◌-◌, ◌^◌, ◌∙◌, div-le_self, arith, rules}
 use Rattle.arithmetic.specs.Arithmetic.{shifted}
-use Rattle.arithmetic.proofs.SignedLaws.{ashr-low, ashr-high}
+use Rattle.arithmetic.proofs.SignedLaws.{ashr_low, ashr_high}
 use Rattle.evaluation.proofs.shifts.arithmetic_right.Statement.{statement}
 use Rattle.evaluation.proofs.shifts.arithmetic_right.Tie as tie
 
@@ -30,16 +30,16 @@ returns : tie.Need-returns
 unfolding shifted
 returns c =
     let s = c.before.before.before in
-    c.logical-right.ensures ∙ ashr-low s.args.k s.args.a s.args.n (omega arith) (omega arith)
+    c.logical-right.ensures ∙ ashr_low s.args.k s.args.a s.args.n (omega arith) (omega arith)
 
 returns-2 : tie.Need-returns-2
 unfolding shifted
 returns-2 c =
     let s = c.before.before.before.before in
-    rw (c.logical-right2.ensures, c.before.mask.ensures) (ashr-high s.args.k s.args.a s.args.n (omega arith) (omega arith))
+    rw (c.logical-right2.ensures, c.before.mask.ensures) (ashr_high s.args.k s.args.a s.args.n (omega arith) (omega arith))
 
-pub arithmetic-right-spec : {M : Type 1} → statement M
-arithmetic-right-spec =
+pub arithmetic_right_spec : {M : Type 1} → statement M
+arithmetic_right_spec =
     tie.close
     (tie.spec
     top-requires

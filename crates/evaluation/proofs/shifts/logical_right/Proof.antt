@@ -15,5 +15,5 @@ returns-2 : tie.Need-returns-2
 unfolding shifted
 returns-2 c = sym (shr_gone c.before.args.k c.before.args.a c.before.args.n (omega arith) (omega arith))
 
-pub logical-right-spec : {M : Type 1} → statement M
-logical-right-spec = tie.close (tie.spec shr-result returns returns-2)
+pub logical_right_spec : {M : Type 1} → statement M
+logical_right_spec = tie.close (tie.spec shr-result returns returns-2)

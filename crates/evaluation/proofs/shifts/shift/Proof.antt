@@ -29,8 +29,8 @@ returns-2 c = rw c.before.enum-told2.given.1 c.arithmetic-right.ensures
 returns-3 : tie.Need-returns-3
 returns-3 c = rw c.before.enum-told3.given.1 c.logical-right.ensures
 
-pub shift-spec : {M : Type 1} → statement M
-shift-spec =
+pub shift_spec : {M : Type 1} → statement M
+shift_spec =
     tie.close
     (tie.spec
     enum_told

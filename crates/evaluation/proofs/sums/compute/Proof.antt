@@ -1,6 +1,6 @@
 use Rattle.std.proofs.Common.{◌≡◌, ◌+◌, ◌-◌, ◌*◌, ◌%◌, ◌^◌, arith, rules}
 use Rattle.arithmetic.specs.Arithmetic.{computed}
-use Rattle.arithmetic.proofs.Powers.{mod-word, sub_word}
+use Rattle.arithmetic.proofs.Powers.{mod_word, sub_word}
 use Rattle.evaluation.proofs.sums.compute.Statement.{statement}
 use Rattle.evaluation.proofs.sums.compute.Tie as tie
 
@@ -35,7 +35,7 @@ returns : tie.Need-returns
 unfolding computed
 returns c =
     let s = c.before.before.before.before in
-    rw (c.before.before.enum_told.given.1, c.low.ensures, c.before.wrapping-add-u64.ensures) (mod-word s.args.k (s.args.a + s.args.b) s.requires.most)
+    rw (c.before.before.enum_told.given.1, c.low.ensures, c.before.wrapping-add-u64.ensures) (mod_word s.args.k (s.args.a + s.args.b) s.requires.most)
 
 returns-2 : tie.Need-returns-2
 unfolding computed
@@ -48,10 +48,10 @@ returns-3 : tie.Need-returns-3
 unfolding computed
 returns-3 c =
     let s = c.before.before.before.before in
-    rw (c.before.before.enum-told3.given.1, c.low3.ensures, c.before.product.ensures) (mod-word s.args.k (s.args.a * s.args.b) s.requires.most)
+    rw (c.before.before.enum-told3.given.1, c.low3.ensures, c.before.product.ensures) (mod_word s.args.k (s.args.a * s.args.b) s.requires.most)
 
-pub compute-spec : {M : Type 1} → statement M
-compute-spec =
+pub compute_spec : {M : Type 1} → statement M
+compute_spec =
     tie.close
     (tie.spec
     enum_told

@@ -9,5 +9,5 @@ mask-requires c κs = search rules
 returns : tie.Need-returns
 returns c = rw c.mask.ensures (and_mask c.before.args.x c.before.args.k)
 
-pub low-spec : {M : Type 1} → statement M
-low-spec = tie.close (tie.spec mask-requires returns)
+pub low_spec : {M : Type 1} → statement M
+low_spec = tie.close (tie.spec mask-requires returns)

@@ -12,5 +12,5 @@ shr-result c = search rules
 returns : tie.Need-returns
 returns c = ones_shr c.args.k c.requires.most
 
-pub mask-spec : {M : Type 1} → statement M
-mask-spec = tie.close (tie.spec sub-result shr-result returns)
+pub mask_spec : {M : Type 1} → statement M
+mask_spec = tie.close (tie.spec sub-result shr-result returns)

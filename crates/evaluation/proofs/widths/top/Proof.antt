@@ -12,5 +12,5 @@ shl-result c = search rules
 returns : tie.Need-returns
 returns c = one_shl (c.args.k - 1) (omega arith)
 
-pub top-spec : {M : Type 1} → statement M
-top-spec = tie.close (tie.spec sub-result shl-result returns)
+pub top_spec : {M : Type 1} → statement M
+top_spec = tie.close (tie.spec sub-result shl-result returns)

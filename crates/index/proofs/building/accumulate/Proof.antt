@@ -4,7 +4,7 @@ use mathlib.Core.Path.{◌≡◌, ◌∙◌}
 use native.Mathlib.Omega.{arith}
 use borrow.Author.Rules.{rules}
 use Rattle.index.specs.Internal.{entry_of}
-use Rattle.index.proofs.TallyLaws.{Summed, summed-start, summed-next, sum_below, sum-next}
+use Rattle.index.proofs.TallyLaws.{Summed, summed_start, summed_next, sum_below, sum_next}
 use Rattle.index.proofs.building.accumulate.Statement.{statement}
 use Rattle.index.proofs.building.accumulate.Tie as tie
 
@@ -15,7 +15,7 @@ abbrev decreases-loop : tie.decreases-loop
 decreases-loop counts₀ n end₀ i₀ counts end i = n - i
 
 loop-holds : tie.Need-loop-init invariant-loop decreases-loop
-loop-holds c = (search rules, summed-start _)
+loop-holds c = (search rules, summed_start _)
 
 mul-count : tie.Need-overflow-mul-count invariant-loop decreases-loop
 mul-count c = search rules
@@ -34,7 +34,7 @@ add-end c =
     let l = c.before.before in
     let s = l.before in
     let g = entry_of s.args.counts.now in
-    omega (arith, l.loop.invariant.1.sum, l.loop.invariant.1.left l.loop.i (omega arith), sum-next g l.loop.i, sum_below g (l.loop.i + 1) s.args.n (omega arith), s.requires.2)
+    omega (arith, l.loop.invariant.1.sum, l.loop.invariant.1.left l.loop.i (omega arith), sum_next g l.loop.i, sum_below g (l.loop.i + 1) s.args.n (omega arith), s.requires.2)
 
 add-i : tie.Need-overflow-add-i invariant-loop decreases-loop
 add-i c = search rules
@@ -43,7 +43,7 @@ loop-less : tie.Need-loop-smaller invariant-loop decreases-loop
 loop-less c = search rules
 
 loop-again : tie.Need-loop-preserved invariant-loop decreases-loop
-loop-again c = let l = c.before.before in (search rules, summed-next _ _ _ _ l.loop.invariant.1 (omega (arith, l.before.requires.0)))
+loop-again c = let l = c.before.before in (search rules, summed_next _ _ _ _ l.loop.invariant.1 (omega (arith, l.before.requires.0)))
 
 returns : tie.Need-returns invariant-loop decreases-loop
 returns c =
@@ -52,8 +52,8 @@ returns c =
     let s = rw e at l.invariant.1 in
     (s.long ∙ c.before.before.requires.0, s.sum, s.done)
 
-pub accumulate-spec : {M : Type 1} → statement M
-accumulate-spec =
+pub accumulate_spec : {M : Type 1} → statement M
+accumulate_spec =
     tie.close
     (tie.spec
     invariant-loop

@@ -26,7 +26,7 @@ returns c =
 returns-2 : tie.Need-returns-2
 returns-2 c = (c.before.requires.0, added_none c.before.args.counts.now c.before.args.i c.if1.false)
 
-pub count-one-spec : {M : Type 1} → statement M
-count-one-spec =
+pub count_one_spec : {M : Type 1} → statement M
+count_one_spec =
     tie.close
     (tie.spec mul-counts element-copy-out-counts add-counts element-write-counts returns returns-2)

@@ -6,7 +6,7 @@ use native.Mathlib.Omega.{arith}
 use lib.ListN.{length, take, drop, length-set}
 use borrow.Author.Rules.{rules}
 use Rattle.store.proofs.TableLaws.{row_more}
-use Rattle.index.proofs.TallyLaws.{front-last}
+use Rattle.index.proofs.TallyLaws.{front_last}
 use Rattle.index.proofs.building.put_starts.Statement.{statement}
 use Rattle.index.proofs.building.put_starts.Tie as tie
 
@@ -57,10 +57,10 @@ returns c =
     let l = c.before.loop in
     let s = c.before.before in
     let e : l.i ≡ s.args.n = omega arith in
-    rw (rw e at l.invariant.2) (front-last s.args.firsts.now s.args.starts.now s.args.n s.args.end (omega (arith, s.requires)) s.requires.2)
+    rw (rw e at l.invariant.2) (front_last s.args.firsts.now s.args.starts.now s.args.n s.args.end (omega (arith, s.requires)) s.requires.2)
 
-pub put-starts-spec : {M : Type 1} → statement M
-put-starts-spec =
+pub put_starts_spec : {M : Type 1} → statement M
+put_starts_spec =
     tie.close
     (tie.spec
     invariant-loop

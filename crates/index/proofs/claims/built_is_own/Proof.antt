@@ -1,9 +1,9 @@
-use Rattle.index.proofs.BuiltLaws.{built-is-own}
+use Rattle.index.proofs.BuiltLaws.{built_is_own}
 use Rattle.index.proofs.claims.built_is_own.Statement.{statement}
 use Rattle.index.proofs.claims.built_is_own.Tie as tie
 
 returns : tie.Need-returns
-returns c = built-is-own
+returns c = built_is_own
 
-pub built-is-own-spec : {M : Type 1} → statement M
-built-is-own-spec = tie.close (tie.spec returns)
+pub built_is_own_spec : {M : Type 1} → statement M
+built_is_own_spec = tie.close (tie.spec returns)

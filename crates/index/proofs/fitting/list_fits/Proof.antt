@@ -4,14 +4,14 @@ use mathlib.Core.Path.{◌≡◌, sym, ◌∙◌}
 use native.Mathlib.Nat.{min-le_right}
 use native.Mathlib.Omega.{arith}
 use lib.ListN.{length, take, drop}
-use Rattle.index.specs.AnyIndex.{listFits}
-use Rattle.index.proofs.AlongLaws.{list_from, list-first, list-low, list-next, list-end}
+use Rattle.index.specs.AnyIndex.{list_fits}
+use Rattle.index.proofs.AlongLaws.{list_from, list_first, list_low, list_next, list_end}
 use borrow.Author.Rules.{rules}
 use Rattle.index.proofs.fitting.list_fits.Statement.{statement}
 use Rattle.index.proofs.fitting.list_fits.Tie as tie
 
 abbrev invariant-loop : tie.invariant-loop
-invariant-loop lists from to m end last₀ k₀ last k = (end ≡ min to (length lists)) × (last < 2 ^ 32) × (list_from m lists to last k ≡ listFits m (drop from (take to lists)))
+invariant-loop lists from to m end last₀ k₀ last k = (end ≡ min to (length lists)) × (last < 2 ^ 32) × (list_from m lists to last k ≡ list_fits m (drop from (take to lists)))
 
 abbrev decreases-loop : tie.decreases-loop
 decreases-loop lists from to m end last₀ k₀ last k = end - k
@@ -20,7 +20,7 @@ lesser-requires : tie.Need-lesser-requires invariant-loop decreases-loop
 lesser-requires c κs = search rules
 
 loop-holds : tie.Need-loop-init invariant-loop decreases-loop
-loop-holds c = let a = c.before.before.args in (c.lesser.ensures, omega arith, list-first a.m a.lists.now a.to a.from)
+loop-holds c = let a = c.before.before.args in (c.lesser.ensures, omega arith, list_first a.m a.lists.now a.to a.from)
 
 mul-line : tie.Need-overflow-mul-line invariant-loop decreases-loop
 mul-line c = let a = c.before.before.before.before.args in omega (arith, c.before.loop.invariant.0, min-le_right a.to (length a.lists.now))
@@ -32,7 +32,7 @@ returns : tie.Need-returns invariant-loop decreases-loop
 returns c =
     let l = c.before.before.before in
     let a = l.before.before.before.args in
-    sym (list-low a.m a.lists.now a.to l.loop.last l.loop.k (omega arith) c.if1.true) ∙ l.loop.invariant.2
+    sym (list_low a.m a.lists.now a.to l.loop.last l.loop.k (omega arith) c.if1.true) ∙ l.loop.invariant.2
 
 add-k : tie.Need-overflow-add-k invariant-loop decreases-loop
 add-k c = let l = c.before.before.before in let a = l.before.before.before.args in omega (arith, l.loop.invariant.0, min-le_right a.to (length a.lists.now))
@@ -44,7 +44,7 @@ loop-again : tie.Need-loop-preserved invariant-loop decreases-loop
 loop-again c =
     let l = c.before.before.before in
     let a = l.before.before.before.args in
-    (l.loop.invariant.0, omega (arith, c.before.shared-slice-known2.given l.loop.k), sym (list-next a.m a.lists.now a.to l.loop.last l.loop.k (omega arith) c.if1.false) ∙ l.loop.invariant.2)
+    (l.loop.invariant.0, omega (arith, c.before.shared-slice-known2.given l.loop.k), sym (list_next a.m a.lists.now a.to l.loop.last l.loop.k (omega arith) c.if1.false) ∙ l.loop.invariant.2)
 
 cast-result : tie.Need-overflow-cast-result invariant-loop decreases-loop
 cast-result c = omega (arith, c.before.loop.invariant.1)
@@ -53,10 +53,10 @@ returns-2 : tie.Need-returns-2 invariant-loop decreases-loop
 returns-2 c =
     let l = c.before in
     let a = l.before.before.before.args in
-    sym (list-end a.m a.lists.now a.to l.loop.last l.loop.k (omega arith)) ∙ l.loop.invariant.2
+    sym (list_end a.m a.lists.now a.to l.loop.last l.loop.k (omega arith)) ∙ l.loop.invariant.2
 
-pub list-fits-spec : {M : Type 1} → statement M
-list-fits-spec =
+pub list_fits_spec : {M : Type 1} → statement M
+list_fits_spec =
     tie.close
     (tie.spec
     invariant-loop

@@ -3,20 +3,20 @@ use Prim.Native.Nat.{◌+◌, ◌-◌, ◌≤◌}
 use mathlib.Core.Path.{◌≡◌, sym, ◌∙◌}
 use native.Mathlib.Omega.{arith}
 use Rattle.index.specs.Index.{index_of}
-use Rattle.index.specs.AnyIndex.{listsFit}
-use Rattle.index.proofs.AlongLaws.{listsFrom, lists-first, lists-broken, lists-next, lists-end}
+use Rattle.index.specs.AnyIndex.{lists_fit}
+use Rattle.index.proofs.AlongLaws.{lists_from, lists_first, lists_broken, lists_next, lists_end}
 use borrow.Author.Rules.{rules}
 use Rattle.index.proofs.fitting.lists_fit.Statement.{statement}
 use Rattle.index.proofs.fitting.lists_fit.Tie as tie
 
 abbrev invariant-loop : tie.invariant-loop
-invariant-loop starts lists n m i₀ i = (i ≤ n) × (listsFrom starts lists n m i ≡ listsFit n m (index_of starts lists))
+invariant-loop starts lists n m i₀ i = (i ≤ n) × (lists_from starts lists n m i ≡ lists_fit n m (index_of starts lists))
 
 abbrev decreases-loop : tie.decreases-loop
 decreases-loop starts lists n m i₀ i = n - i
 
 loop-holds : tie.Need-loop-init invariant-loop decreases-loop
-loop-holds c = let a = c.before.before.args in (search rules, lists-first a.starts.now a.lists.now a.n a.m)
+loop-holds c = let a = c.before.before.args in (search rules, lists_first a.starts.now a.lists.now a.n a.m)
 
 add-next : tie.Need-overflow-add-next invariant-loop decreases-loop
 add-next c = search rules
@@ -49,22 +49,22 @@ loop-again : tie.Need-loop-preserved invariant-loop decreases-loop
 loop-again c =
     let l = c.before.before.before.before.before in
     let a = l.before.before.before.args in
-    (search rules, sym (lists-next a.starts.now a.lists.now a.n a.m l.loop.i c.before.before.before.before.loop-test.true c.before.list-fits.result (sym c.before.list-fits.ensures) c.if1.true) ∙ l.loop.invariant.1)
+    (search rules, sym (lists_next a.starts.now a.lists.now a.n a.m l.loop.i c.before.before.before.before.loop-test.true c.before.list-fits.result (sym c.before.list-fits.ensures) c.if1.true) ∙ l.loop.invariant.1)
 
 returns : tie.Need-returns invariant-loop decreases-loop
 returns c =
     let l = c.before.before.before.before.before in
     let a = l.before.before.before.args in
-    sym (lists-broken a.starts.now a.lists.now a.n a.m l.loop.i c.before.before.before.before.loop-test.true c.before.list-fits.result (sym c.before.list-fits.ensures) c.if1.false) ∙ l.loop.invariant.1
+    sym (lists_broken a.starts.now a.lists.now a.n a.m l.loop.i c.before.before.before.before.loop-test.true c.before.list-fits.result (sym c.before.list-fits.ensures) c.if1.false) ∙ l.loop.invariant.1
 
 returns-2 : tie.Need-returns-2 invariant-loop decreases-loop
 returns-2 c =
     let l = c.before in
     let a = l.before.before.before.args in
-    sym (lists-end a.starts.now a.lists.now a.n a.m l.loop.i c.loop-test.false) ∙ l.loop.invariant.1
+    sym (lists_end a.starts.now a.lists.now a.n a.m l.loop.i c.loop-test.false) ∙ l.loop.invariant.1
 
-pub lists-fit-spec : {M : Type 1} → statement M
-lists-fit-spec =
+pub lists_fit_spec : {M : Type 1} → statement M
+lists_fit_spec =
     tie.close
     (tie.spec
     invariant-loop

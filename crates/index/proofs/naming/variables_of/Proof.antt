@@ -1,5 +1,5 @@
 use borrow.Author.Rules.{rules}
-use Rattle.index.proofs.NamesLaws.{named-once}
+use Rattle.index.proofs.NamesLaws.{named_once}
 use Rattle.index.proofs.naming.variables_of.Statement.{statement}
 use Rattle.index.proofs.naming.variables_of.Tie as tie
 
@@ -27,10 +27,10 @@ unless-requires-3 c κs = search rules
 returns : tie.Need-returns
 returns c i h =
     let s = c.before.before.before in
-    rw (c.before.before.unless.ensures, c.before.unless2.ensures, c.unless3.ensures) (named-once i _ _ _ _ h _ _ _ (s.before.before.before.variable-at.ensures i h) (s.before.before.variable-at2.ensures i h) (s.before.variable-at3.ensures i h) (s.variable-at4.ensures i h))
+    rw (c.before.before.unless.ensures, c.before.unless2.ensures, c.unless3.ensures) (named_once i _ _ _ _ h _ _ _ (s.before.before.before.variable-at.ensures i h) (s.before.before.variable-at2.ensures i h) (s.before.variable-at3.ensures i h) (s.variable-at4.ensures i h))
 
-pub variables-of-spec : {M : Type 1} → statement M
-variables-of-spec =
+pub variables_of_spec : {M : Type 1} → statement M
+variables_of_spec =
     tie.close
     (tie.spec
     variable-at-requires

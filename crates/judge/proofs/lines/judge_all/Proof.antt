@@ -6,21 +6,21 @@ use native.Mathlib.Omega.{arith}
 use lib.ListN.{length, drop, length-set}
 use borrow.Author.Rules.{rules}
 use Rattle.constraint.specs.File.{Variable}
-use Rattle.store.specs.Tables.{tabulate, linesIn, AllHeadsFit}
-use Rattle.judge.specs.Judge.{columnOf, verdictsOf, resultsOf}
-use Rattle.judge.proofs.VerdictLaws.{column-put}
+use Rattle.store.specs.Tables.{tabulate, lines_in, AllHeadsFit}
+use Rattle.judge.specs.Judge.{column_of, verdicts_of, results_of}
+use Rattle.judge.proofs.VerdictLaws.{column_put}
 use Rattle.judge.proofs.lines.judge_all.Statement.{statement}
 use Rattle.judge.proofs.lines.judge_all.Tie as tie
 
 abbrev invariant-loop : tie.invariant-loop
 invariant-loop heads bodies m row verdicts₀ results₀ i₀ verdicts results i =
-    (i ≤ m) × (length verdicts ≡ length verdicts₀) × (length results ≡ length results₀) × ((xs : List Variable) → AllHeadsFit xs heads bodies m → (verdicts ≡ verdictsOf xs row (linesIn heads bodies i) ++ drop i verdicts₀) × (results ≡ resultsOf xs row (linesIn heads bodies i) ++ drop i results₀))
+    (i ≤ m) × (length verdicts ≡ length verdicts₀) × (length results ≡ length results₀) × ((xs : List Variable) → AllHeadsFit xs heads bodies m → (verdicts ≡ verdicts_of xs row (lines_in heads bodies i) ++ drop i verdicts₀) × (results ≡ results_of xs row (lines_in heads bodies i) ++ drop i results₀))
 
 abbrev decreases-loop : tie.decreases-loop
 decreases-loop heads bodies m row verdicts₀ results₀ i₀ verdicts results i = m - i
 
 loop-holds : tie.Need-loop-init invariant-loop decreases-loop
-unfolding columnOf linesIn tabulate
+unfolding column_of lines_in tabulate
 loop-holds c = (search rules, refl, refl, λ xs f. (refl, refl))
 
 judge-line-requires : tie.Need-judge-line-requires invariant-loop decreases-loop
@@ -53,7 +53,7 @@ loop-again c =
       λ xs f.
           let judged = c.judge-line.ensures xs (f _ c.before.loop-test.true) in
           let put = l.invariant.3 xs f in
-          (rw (judged, put.0) (column-put (λ j. j.verdict) xs _ _ _ l.i s.args.verdicts.now (omega arith)), rw (judged, put.1) (column-put (λ j. j.result) xs _ _ _ l.i s.args.results.now (omega arith))),
+          (rw (judged, put.0) (column_put (λ j. j.verdict) xs _ _ _ l.i s.args.verdicts.now (omega arith)), rw (judged, put.1) (column_put (λ j. j.result) xs _ _ _ l.i s.args.results.now (omega arith))),
     )
 
 same_length : tie.Need-same-length invariant-loop decreases-loop
@@ -68,8 +68,8 @@ returns c xs f =
     let e : l.i ≡ c.before.before.before.before.before.args.m = omega arith in
     rw e at (l.invariant.3 xs f)
 
-pub judge-all-spec : {M : Type 1} → statement M
-judge-all-spec =
+pub judge_all_spec : {M : Type 1} → statement M
+judge_all_spec =
     tie.close
     (tie.spec
     invariant-loop

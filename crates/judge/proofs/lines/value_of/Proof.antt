@@ -16,5 +16,5 @@ returns c = search rules
 returns-2 : tie.Need-returns-2
 returns-2 c = sym (get_or-eq_default c.before.args.row.now 0 c.if1.false)
 
-pub value-of-spec : {M : Type 1} → statement M
-value-of-spec = tie.close (tie.spec mul-result shared-slice-read-result returns returns-2)
+pub value_of_spec : {M : Type 1} → statement M
+value_of_spec = tie.close (tie.spec mul-result shared-slice-read-result returns returns-2)

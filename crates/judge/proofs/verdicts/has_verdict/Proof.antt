@@ -5,20 +5,20 @@ use mathlib.Core.Bool.{◌||◌}
 use lib.Dec.{eqb}
 use lib.ListN.{length, drop}
 use borrow.Author.Rules.{rules}
-use Rattle.refusal.specs.Lists.{firstFrom, isThere}
-use Rattle.judge.specs.Judge.{firstVerdict}
-use Rattle.judge.proofs.OverallLaws.{found-more, found_all}
+use Rattle.refusal.specs.Lists.{first_from, is_there}
+use Rattle.judge.specs.Judge.{first_verdict}
+use Rattle.judge.proofs.OverallLaws.{found_more, found_all}
 use Rattle.judge.proofs.verdicts.has_verdict.Statement.{statement}
 use Rattle.judge.proofs.verdicts.has_verdict.Tie as tie
 
 abbrev invariant-loop : tie.invariant-loop
-invariant-loop verdicts v found₀ i₀ found i = (i ≤ length verdicts) × ((found || isThere (firstFrom (eqb v) (i + 1) (drop i verdicts))) ≡ isThere (firstVerdict v verdicts))
+invariant-loop verdicts v found₀ i₀ found i = (i ≤ length verdicts) × ((found || is_there (first_from (eqb v) (i + 1) (drop i verdicts))) ≡ is_there (first_verdict v verdicts))
 
 abbrev decreases-loop : tie.decreases-loop
 decreases-loop verdicts v found₀ i₀ found i = length verdicts - i
 
 loop-holds : tie.Need-loop-init invariant-loop decreases-loop
-unfolding firstVerdict
+unfolding first_verdict
 loop-holds c = (search rules, refl)
 
 shared-slice-read-found : tie.Need-shared-slice-read-found invariant-loop decreases-loop
@@ -34,15 +34,15 @@ loop-again : tie.Need-loop-preserved invariant-loop decreases-loop
 loop-again c =
     let s = c.before in
     let l = s.before in
-    (search rules, found-more l.before.args.v l.before.args.verdicts.now l.loop.i l.loop.found s.loop-test.true ∙ l.loop.invariant.1)
+    (search rules, found_more l.before.args.v l.before.args.verdicts.now l.loop.i l.loop.found s.loop-test.true ∙ l.loop.invariant.1)
 
 returns : tie.Need-returns invariant-loop decreases-loop
 returns c =
     let l = c.before in
     found_all l.before.args.v l.before.args.verdicts.now l.loop.i l.loop.found c.loop-test.false ∙ l.loop.invariant.1
 
-pub has-verdict-spec : {M : Type 1} → statement M
-has-verdict-spec =
+pub has_verdict_spec : {M : Type 1} → statement M
+has_verdict_spec =
     tie.close
     (tie.spec
     invariant-loop

@@ -5,14 +5,14 @@ use lib.Dec.{ltb}
 use lib.ListN.{length, get_or, drop}
 use borrow.Author.Rules.{rules}
 use borrow.Author.Tests.{lt-ltb, le-ltb}
-use Rattle.refusal.specs.Lists.{firstFrom}
-use Rattle.judge.specs.Judge.{verdictDisregarded}
-use Rattle.refusal.proofs.ListLaws.{first-here, first-later, first-nowhere}
+use Rattle.refusal.specs.Lists.{first_from}
+use Rattle.judge.specs.Judge.{verdict_disregarded}
+use Rattle.refusal.proofs.ListLaws.{first_here, first_later, first_nowhere}
 use Rattle.moves.proofs.admission.first_above.Statement.{statement}
 use Rattle.moves.proofs.admission.first_above.Tie as tie
 
 abbrev invariant-loop : tie.invariant-loop
-invariant-loop verdicts k₀ k = (k ≤ length verdicts) × (firstFrom (ltb verdictDisregarded) k (drop k verdicts) ≡ firstFrom (ltb verdictDisregarded) 0 verdicts)
+invariant-loop verdicts k₀ k = (k ≤ length verdicts) × (first_from (ltb verdict_disregarded) k (drop k verdicts) ≡ first_from (ltb verdict_disregarded) 0 verdicts)
 
 abbrev decreases-loop : tie.decreases-loop
 decreases-loop verdicts k₀ k = length verdicts - k
@@ -28,7 +28,7 @@ returns c =
     let s = c.before.before in
     let k = s.before.loop.k in
     let vs = s.before.before.args.verdicts.now in
-    sym (first-here (ltb verdictDisregarded) k vs k 0 s.loop-test.true (lt-ltb verdictDisregarded (get_or vs k 0) c.if1.true)) ∙ s.before.loop.invariant.1
+    sym (first_here (ltb verdict_disregarded) k vs k 0 s.loop-test.true (lt-ltb verdict_disregarded (get_or vs k 0) c.if1.true)) ∙ s.before.loop.invariant.1
 
 add-k : tie.Need-overflow-add-k invariant-loop decreases-loop
 add-k c = search rules
@@ -41,15 +41,15 @@ loop-again c =
     let s = c.before.before in
     let k = s.before.loop.k in
     let vs = s.before.before.args.verdicts.now in
-    (search rules, sym (first-later (ltb verdictDisregarded) k vs k 0 s.loop-test.true (le-ltb verdictDisregarded (get_or vs k 0) c.if1.false)) ∙ s.before.loop.invariant.1)
+    (search rules, sym (first_later (ltb verdict_disregarded) k vs k 0 s.loop-test.true (le-ltb verdict_disregarded (get_or vs k 0) c.if1.false)) ∙ s.before.loop.invariant.1)
 
 returns-2 : tie.Need-returns-2 invariant-loop decreases-loop
 returns-2 c =
     let s = c.before in
-    sym (first-nowhere (ltb verdictDisregarded) s.loop.k s.before.args.verdicts.now s.loop.k c.loop-test.false) ∙ s.loop.invariant.1
+    sym (first_nowhere (ltb verdict_disregarded) s.loop.k s.before.args.verdicts.now s.loop.k c.loop-test.false) ∙ s.loop.invariant.1
 
-pub first-above-spec : {M : Type 1} → statement M
-first-above-spec =
+pub first_above_spec : {M : Type 1} → statement M
+first_above_spec =
     tie.close
     (tie.spec
     invariant-loop

@@ -29,8 +29,8 @@ returns-2 c = rw c.bar.ensures (rw c.before.enum-told2.given.1 at c.before.befor
 returns-3 : tie.Need-returns-3
 returns-3 c = rw c.bar2.ensures (rw c.before.enum-told3.given.1 at c.before.before.before.index-fault.ensures)
 
-pub gate-index-spec : {M : Type 1} → statement M
-gate-index-spec =
+pub gate_index_spec : {M : Type 1} → statement M
+gate_index_spec =
     tie.close
     (tie.spec
     index-fault-requires

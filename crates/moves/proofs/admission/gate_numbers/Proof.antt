@@ -4,7 +4,7 @@ use lib.Seq.{length-take-le}
 use borrow.Author.Rules.{rules}
 use borrow.Author.Tests.{not-true, not-false}
 use Rattle.arithmetic.specs.Rules.{fits}
-use Rattle.moves.proofs.GateLaws.{file-sized, variable-missing, value-too-large, values-unfit, verdicts-unfit, numbers-pass}
+use Rattle.moves.proofs.GateLaws.{file_sized, variable_missing, value_too_large, values_unfit, verdicts_unfit, numbers_pass}
 use Rattle.moves.proofs.admission.gate_numbers.Statement.{statement}
 use Rattle.moves.proofs.admission.gate_numbers.Tie as tie
 
@@ -16,7 +16,7 @@ bar-requires : tie.Need-bar-requires
 bar-requires c κs = search rules
 
 returns : tie.Need-returns
-returns c file ls e = rw c.bar.ensures (variable-missing _ _ _ (file-sized file _ _ ls _ e) _ _ _ _ c.before.if1.true)
+returns c file ls e = rw c.bar.ensures (variable_missing _ _ _ (file_sized file _ _ ls _ e) _ _ _ _ c.before.if1.true)
 
 width-of-requires : tie.Need-width-of-requires
 width-of-requires c κs = search rules
@@ -28,7 +28,7 @@ bar-requires-2 : tie.Need-bar-requires-2
 bar-requires-2 c κs = search rules
 
 returns-2 : tie.Need-returns-2
-returns-2 c file ls e = rw c.bar2.ensures (value-too-large _ _ _ (file-sized file _ _ ls _ e) _ _ _ _ c.before.before.before.before.if1.false _ (sym (c.before.before.before.width_of_lem.ensures file)) (sym c.before.before.fits2.ensures ∙ not-true _ c.before.if2.true))
+returns-2 c file ls e = rw c.bar2.ensures (value_too_large _ _ _ (file_sized file _ _ ls _ e) _ _ _ _ c.before.before.before.before.if1.false _ (sym (c.before.before.before.width_of_lem.ensures file)) (sym c.before.before.fits2.ensures ∙ not-true _ c.before.if2.true))
 
 first-unfit-requires : tie.Need-first-unfit-requires
 first-unfit-requires c κs = search rules
@@ -60,17 +60,17 @@ enum-told-2 : tie.Need-enum-told-2
 enum-told-2 c = search rules
 
 returns-3 : tie.Need-returns-3
-returns-3 c file ls e = rw c.bar3.ensures (values-unfit _ _ _ (file-sized file _ _ ls _ e) _ _ _ _ c.before.before.before.before.before.before.before.before.if1.false _ (sym (c.before.before.before.before.before.before.before.width_of_lem.ensures file)) (fitting c.before.before.before.before.before) _ (rw c.before.before.k.given.1 at (c.before.before.before.before.first-unfit.ensures file)))
+returns-3 c file ls e = rw c.bar3.ensures (values_unfit _ _ _ (file_sized file _ _ ls _ e) _ _ _ _ c.before.before.before.before.before.before.before.before.if1.false _ (sym (c.before.before.before.before.before.before.before.width_of_lem.ensures file)) (fitting c.before.before.before.before.before) _ (rw c.before.before.k.given.1 at (c.before.before.before.before.first-unfit.ensures file)))
 
 returns-4 : tie.Need-returns-4
 returns-4 c file ls e = rw c.bar4.ensures
-    (verdicts-unfit _ _ _ (file-sized file _ _ ls _ e) _ _ _ _ c.before.before.before.before.before.before.before.before.before.before.before.before.if1.false _ (sym (c.before.before.before.before.before.before.before.before.before.before.before.width_of_lem.ensures file)) (fitting c.before.before.before.before.before.before.before.before.before) (rw c.before.before.before.before.before.before.enum_told.given.1 at (c.before.before.before.before.before.before.before.before.first-unfit.ensures file)) _ (rw c.before.before.k2.given.1 at c.before.before.before.before.first_above.ensures))
+    (verdicts_unfit _ _ _ (file_sized file _ _ ls _ e) _ _ _ _ c.before.before.before.before.before.before.before.before.before.before.before.before.if1.false _ (sym (c.before.before.before.before.before.before.before.before.before.before.before.width_of_lem.ensures file)) (fitting c.before.before.before.before.before.before.before.before.before) (rw c.before.before.before.before.before.before.enum_told.given.1 at (c.before.before.before.before.before.before.before.before.first-unfit.ensures file)) _ (rw c.before.before.k2.given.1 at c.before.before.before.before.first_above.ensures))
 
 returns-5 : tie.Need-returns-5
-returns-5 c file ls e = numbers-pass _ _ _ (file-sized file _ _ ls _ e) _ _ _ _ c.before.before.before.before.before.before.before.before.before.before.if1.false _ (sym (c.before.before.before.before.before.before.before.before.before.width_of_lem.ensures file)) (fitting c.before.before.before.before.before.before.before) (rw c.before.before.before.before.enum_told.given.1 at (c.before.before.before.before.before.before.first-unfit.ensures file)) (rw c.enum-told2.given.1 at c.before.before.first_above.ensures)
+returns-5 c file ls e = numbers_pass _ _ _ (file_sized file _ _ ls _ e) _ _ _ _ c.before.before.before.before.before.before.before.before.before.before.if1.false _ (sym (c.before.before.before.before.before.before.before.before.before.width_of_lem.ensures file)) (fitting c.before.before.before.before.before.before.before) (rw c.before.before.before.before.enum_told.given.1 at (c.before.before.before.before.before.before.first-unfit.ensures file)) (rw c.enum-told2.given.1 at c.before.before.first_above.ensures)
 
-pub gate-numbers-spec : {M : Type 1} → statement M
-gate-numbers-spec =
+pub gate_numbers_spec : {M : Type 1} → statement M
+gate_numbers_spec =
     tie.close
     (tie.spec
     bar-requires

@@ -8,5 +8,5 @@ differing-bits-requires c κs = search rules
 returns : tie.Need-returns
 returns c = rw c.differing-bits.ensures
 
-pub changed-spec : {M : Type 1} → statement M
-changed-spec = tie.close (tie.spec differing-bits-requires returns)
+pub changed_spec : {M : Type 1} → statement M
+changed_spec = tie.close (tie.spec differing-bits-requires returns)

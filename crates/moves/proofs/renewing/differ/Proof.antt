@@ -8,5 +8,5 @@ returns c = rw (eq-eqb c.before.args.a c.before.args.b c.if1.true)
 returns-2 : tie.Need-returns-2
 returns-2 c = rw (ne_eqb c.before.args.a c.before.args.b c.if1.false)
 
-pub differ-spec : {M : Type 1} → statement M
-differ-spec = tie.close (tie.spec returns returns-2)
+pub differ_spec : {M : Type 1} → statement M
+differ_spec = tie.close (tie.spec returns returns-2)

@@ -6,16 +6,16 @@ use native.Mathlib.Omega.{arith}
 use lib.ListN.{length}
 use borrow.Author.Rules.{rules}
 use Rattle.constraint.specs.File.{Variable}
-use Rattle.store.specs.Tables.{lineIn, AllHeadsFit}
+use Rattle.store.specs.Tables.{line_in, AllHeadsFit}
 use Rattle.index.specs.Select.{names}
-use Rattle.moves.specs.Internal.{columnsOf, judgedIn}
-use Rattle.moves.proofs.RenewLaws.{NamedTurn, renewed-most, named_start, named-next, named_end}
+use Rattle.moves.specs.Internal.{columns_of, judged_in}
+use Rattle.moves.proofs.RenewLaws.{NamedTurn, renewed_most, named_start, named_next, named_end}
 use Rattle.moves.proofs.renewing.renew.Statement.{statement}
 use Rattle.moves.proofs.renewing.renew.Tie as tie
 
 abbrev invariant-loop : tie.invariant-loop
 invariant-loop heads bodies m row verdicts₀ results₀ i named₀ altered₀ k₀ verdicts results named altered k =
-    (k ≤ m) × (length verdicts ≡ length verdicts₀) × (length results ≡ length results₀) × (named ≤ k) × (altered ≤ k) × ((xs : List Variable) → AllHeadsFit xs heads bodies m → NamedTurn xs heads bodies m row (columnsOf verdicts₀ results₀) i (columnsOf verdicts results) named altered k)
+    (k ≤ m) × (length verdicts ≡ length verdicts₀) × (length results ≡ length results₀) × (named ≤ k) × (altered ≤ k) × ((xs : List Variable) → AllHeadsFit xs heads bodies m → NamedTurn xs heads bodies m row (columns_of verdicts₀ results₀) i (columns_of verdicts results) named altered k)
 
 abbrev decreases-loop : tie.decreases-loop
 decreases-loop heads bodies m row verdicts₀ results₀ i named₀ altered₀ k₀ verdicts results named altered k = m - k
@@ -35,7 +35,7 @@ most c =
     let s = l.before.before.before.before.before in
     let k = l.before.loop.k in
     let j = s.requires.5 k l.loop-test.true in
-    renewed-most (names s.args.i (lineIn s.args.heads.now s.args.bodies.now k)) (judgedIn j.variables s.args.row.now s.args.heads.now s.args.bodies.now k) k _ _ _ (c.renew-named.ensures j.variables j.heads-fit)
+    renewed_most (names s.args.i (line_in s.args.heads.now s.args.bodies.now k)) (judged_in j.variables s.args.row.now s.args.heads.now s.args.bodies.now k) k _ _ _ (c.renew-named.ensures j.variables j.heads_fit)
 
 add-named : tie.Need-overflow-add-named invariant-loop decreases-loop
 add-named c = omega (arith, most c.before.before.before.before.before)
@@ -54,7 +54,7 @@ loop-again c =
     let a = c.before.before.before.before.before.before in
     let l = c.before.before.before.before.before.before.before.before.before.before.loop in
     let h = c.before.before.before.before.before.before.before.before.before.loop-test.true in
-    (search rules, search rules, search rules, omega (arith, most a), omega (arith, most a), λ xs f. named-next xs _ _ _ _ _ _ (omega arith, omega arith) _ _ _ _ (l.invariant.5 xs f) h _ _ (a.renew-named.ensures xs (f _ h)))
+    (search rules, search rules, search rules, omega (arith, most a), omega (arith, most a), λ xs f. named_next xs _ _ _ _ _ _ (omega arith, omega arith) _ _ _ _ (l.invariant.5 xs f) h _ _ (a.renew-named.ensures xs (f _ h)))
 
 same_length : tie.Need-same-length invariant-loop decreases-loop
 same_length c = c.before.loop.invariant.1
@@ -68,8 +68,8 @@ returns c xs f =
     let e : l.k ≡ c.before.before.before.before.before.args.m = omega arith in
     named_end xs _ _ _ _ _ _ _ _ _ (rw e at (l.invariant.5 xs f))
 
-pub renew-spec : {M : Type 1} → statement M
-renew-spec =
+pub renew_spec : {M : Type 1} → statement M
+renew_spec =
     tie.close
     (tie.spec
     invariant-loop

@@ -3,7 +3,7 @@ use native.Mathlib.Omega.{arith}
 use borrow.Author.Rules.{rules}
 use Rattle.index.specs.Index.{index_of}
 use Rattle.moves.specs.Internal.{ListFitting}
-use Rattle.moves.proofs.RenewLaws.{part-listed, part-fits}
+use Rattle.moves.proofs.RenewLaws.{part_listed, part_fits}
 use Rattle.moves.proofs.renewing.renew_concerned.Statement.{statement}
 use Rattle.moves.proofs.renewing.renew_concerned.Tie as tie
 
@@ -47,7 +47,7 @@ part-renew-listed-end c = omega (arith, (fitting c.before.before.before.before).
 renew-listed-requires : tie.Need-renew-listed-requires
 renew-listed-requires c κs =
     let s = c.before.before.before.before.before.before.before.before.before.before.before in
-    (s.requires.0, s.requires.1, s.requires.2, s.requires.3, s.requires.4, part-fits _ _ _ (fitting c.before.before.before.before.before), s.requires.6)
+    (s.requires.0, s.requires.1, s.requires.2, s.requires.3, s.requires.4, part_fits _ _ _ (fitting c.before.before.before.before.before), s.requires.6)
 
 same_length : tie.Need-same-length
 same_length c = search rules
@@ -58,7 +58,7 @@ same-length-2 c = search rules
 returns : tie.Need-returns
 returns c xs f =
     let t = c.before.before.before.before.before.before.before.before.before.before in
-    rw (t.if1.true, ← part-listed _ _ _ (fitting t)) (c.before.before.before.before.renew-listed.ensures xs f)
+    rw (t.if1.true, ← part_listed _ _ _ (fitting t)) (c.before.before.before.before.renew-listed.ensures xs f)
 
 renew-requires : tie.Need-renew-requires
 renew-requires c κs = search rules
@@ -72,8 +72,8 @@ same-length-4 c = search rules
 returns-2 : tie.Need-returns-2
 returns-2 c xs f = rw c.before.before.before.before.before.before.before.if1.false (c.before.before.before.before.renew.ensures xs f)
 
-pub renew-concerned-spec : {M : Type 1} → statement M
-renew-concerned-spec =
+pub renew_concerned_spec : {M : Type 1} → statement M
+renew_concerned_spec =
     tie.close
     (tie.spec
     mul-from

@@ -31,8 +31,8 @@ returns c xs f =
     let fresh = c.before.judge-line.ensures xs f in
     (rw fresh at c.differ.ensures, rw fresh)
 
-pub renew-line-spec : {M : Type 1} → statement M
-renew-line-spec =
+pub renew_line_spec : {M : Type 1} → statement M
+renew_line_spec =
     tie.close
     (tie.spec
     slice-read-old

@@ -7,14 +7,14 @@ use lib.ListN.{length, get_or}
 use borrow.Author.Rules.{rules}
 use Rattle.constraint.specs.File.{Variable}
 use Rattle.store.specs.Tables.{AllHeadsFit}
-use Rattle.moves.specs.Internal.{columnsOf, judgedIn}
-use Rattle.moves.proofs.RenewLaws.{ListedTurn, differs-most, listed-place, listed_start, listed_next, listed-end}
+use Rattle.moves.specs.Internal.{columns_of, judged_in}
+use Rattle.moves.proofs.RenewLaws.{ListedTurn, differs_most, listed_place, listed_start, listed_next, listed_end}
 use Rattle.moves.proofs.renewing.renew_listed.Statement.{statement}
 use Rattle.moves.proofs.renewing.renew_listed.Tie as tie
 
 abbrev invariant-loop : tie.invariant-loop
 invariant-loop heads bodies m row verdicts₀ results₀ list altered₀ k₀ verdicts results altered k =
-    (k ≤ length list) × (length verdicts ≡ length verdicts₀) × (length results ≡ length results₀) × (altered ≤ k) × ((xs : List Variable) → AllHeadsFit xs heads bodies m → ListedTurn xs heads bodies m row (columnsOf verdicts₀ results₀) list (columnsOf verdicts results) altered k)
+    (k ≤ length list) × (length verdicts ≡ length verdicts₀) × (length results ≡ length results₀) × (altered ≤ k) × ((xs : List Variable) → AllHeadsFit xs heads bodies m → ListedTurn xs heads bodies m row (columns_of verdicts₀ results₀) list (columns_of verdicts results) altered k)
 
 abbrev decreases-loop : tie.decreases-loop
 decreases-loop heads bodies m row verdicts₀ results₀ list altered₀ k₀ verdicts results altered k = length list - k
@@ -25,7 +25,7 @@ loop-holds c = (search rules, search rules, search rules, search rules, λ xs f.
 -- a number of the list is one of the lines
 place : (c : tie.In-loop invariant-loop decreases-loop) → let s = c.before.before.before.before.before.before in (1 ≤ get_or s.args.list.now c.before.loop.k 0) × (get_or s.args.list.now c.before.loop.k 0 ≤ s.args.m)
 place c =
-    let s = c.before.before.before.before.before.before in listed-place _ _ _ s.requires.5 c.loop-test.true
+    let s = c.before.before.before.before.before.before in listed_place _ _ _ s.requires.5 c.loop-test.true
 
 mul-line : tie.Need-overflow-mul-line invariant-loop decreases-loop
 mul-line c = search rules
@@ -51,8 +51,8 @@ most c =
     let s = l.before.before.before.before.before.before in
     let line = get_or s.args.list.now l.before.loop.k 0 - 1 in
     let j = s.requires.6 line (omega (arith, place l)) in
-    let new = judgedIn j.variables s.args.row.now s.args.heads.now s.args.bodies.now line in
-    rw (c.renew-line.ensures j.variables j.heads-fit).0 (differs-most (get_or l.before.loop.verdicts line 0) new.verdict)
+    let new = judged_in j.variables s.args.row.now s.args.heads.now s.args.bodies.now line in
+    rw (c.renew-line.ensures j.variables j.heads_fit).0 (differs_most (get_or l.before.loop.verdicts line 0) new.verdict)
 
 add-altered : tie.Need-overflow-add-altered invariant-loop decreases-loop
 add-altered c = omega (arith, most c.before.before.before.before)
@@ -81,10 +81,10 @@ returns c xs f =
     let l = c.before.loop in
     let s = c.before.before.before.before.before.before.args in
     let e : l.k ≡ length s.list.now = omega arith in
-    listed-end xs _ _ _ _ _ s.list.now _ _ (rw e at (l.invariant.4 xs f))
+    listed_end xs _ _ _ _ _ s.list.now _ _ (rw e at (l.invariant.4 xs f))
 
-pub renew-listed-spec : {M : Type 1} → statement M
-renew-listed-spec =
+pub renew_listed_spec : {M : Type 1} → statement M
+renew_listed_spec =
     tie.close
     (tie.spec
     invariant-loop

@@ -1,7 +1,7 @@
 use mathlib.Core.Path.{◌≡◌, sym, ◌∙◌}
 use mathlib.Core.Bool.{Bool, true, false}
 use borrow.Author.Rules.{rules}
-use Rattle.store.specs.Tables.{lineIn}
+use Rattle.store.specs.Tables.{line_in}
 use Rattle.index.specs.Select.{names}
 use Rattle.moves.proofs.renewing.renew_named.Statement.{statement}
 use Rattle.moves.proofs.renewing.renew_named.Tie as tie
@@ -9,7 +9,7 @@ use Rattle.moves.proofs.renewing.renew_named.Tie as tie
 -- whether the line names the variable
 abbrev named : tie.After-names → Bool
 named c =
-    let s = c.before.before.before.before.args in names s.i (lineIn s.heads.now s.bodies.now s.k)
+    let s = c.before.before.before.before.args in names s.i (line_in s.heads.now s.bodies.now s.k)
 
 hit : (c : tie.Then1) → named c.before ≡ true
 hit c = sym c.before.names.ensures ∙ c.if1.true
@@ -38,7 +38,7 @@ returns c xs f =
 returns-2 : tie.Need-returns-2
 returns-2 c xs f = record { made = rw (miss c); counted = rw (miss c); differed = rw (miss c) }
 
-pub renew-named-spec : {M : Type 1} → statement M
-renew-named-spec =
+pub renew_named_spec : {M : Type 1} → statement M
+renew_named_spec =
     tie.close
     (tie.spec names-requires renew-line-requires same_length same-length-2 returns returns-2)

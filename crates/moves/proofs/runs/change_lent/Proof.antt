@@ -5,8 +5,8 @@ use borrow.Author.Rules.{rules}
 use Rattle.judge.specs.InUse.{tables_of}
 use Rattle.moves.specs.Gate.{changing}
 use Rattle.moves.specs.Run.{Turn}
-use Rattle.moves.specs.Internal.{indexIf}
-use Rattle.moves.proofs.WholeLaws.{front-lent}
+use Rattle.moves.specs.Internal.{index_if}
+use Rattle.moves.proofs.WholeLaws.{front_lent}
 use Rattle.moves.proofs.runs.change_lent.Statement.{statement}
 use Rattle.moves.proofs.runs.change_lent.Tie as tie
 
@@ -56,12 +56,12 @@ returns c =
     let k = c.before.before.before.before.before.before.before.before.before.before.before.before.lesser in
     let l = c.before.before.before.before.before.before.before.before.before.before.before.lesser2 in
     let m = c.before.before.before.before.before.before.before.before.before.before.lesser3 in
-    let turn : Turn = record { call = changing s.i s.v (indexIf s.through s.starts.now s.lists.now); lent = record { values = s.p; verdicts = s.q; results = s.s } } in
+    let turn : Turn = record { call = changing s.i s.v (index_if s.through s.starts.now s.lists.now); lent = record { values = s.p; verdicts = s.q; results = s.s } } in
     let left = d.change-read.new.1 in
-    front-lent s.constraint.now (tables_of s.values.now s.verdicts.now s.results.now) turn k.result l.result m.result (record { reply = d.change-read.result; tables = tables_of left.0 left.1.0 left.1.1.0 }) k.ensures l.ensures m.ensures d.change-read.ensures
+    front_lent s.constraint.now (tables_of s.values.now s.verdicts.now s.results.now) turn k.result l.result m.result (record { reply = d.change-read.result; tables = tables_of left.0 left.1.0 left.1.1.0 }) k.ensures l.ensures m.ensures d.change-read.ensures
 
-pub change-lent-spec : {M : Type 1} → statement M
-change-lent-spec =
+pub change_lent_spec : {M : Type 1} → statement M
+change_lent_spec =
     tie.close
     (tie.spec
     lesser-requires

@@ -57,8 +57,8 @@ returns-6 c = rw (c.before.before.before.number.given.1, c.enum-told7.given.1)
 returns-7 : tie.Need-returns-7
 returns-7 c = let m = c.before.before.before in rw (m.before.before.before.number.given.1, m.kind.given.1, c.before.constant-head.ensures, c.reduced.ensures)
 
-pub constant-of-spec : {M : Type 1} → statement M
-constant-of-spec =
+pub constant_of_spec : {M : Type 1} → statement M
+constant_of_spec =
     tie.close
     (tie.spec
     enum_told

@@ -3,10 +3,10 @@ use mathlib.Core.Path.{ap, sym, ◌∙◌}
 use borrow.Author.Rules.{rules}
 use Prim.Native.Nat.{◌+◌, ◌<◌}
 use native.Mathlib.Omega.{arith}
-use Rattle.store.specs.Tables.{variableMark, headWidth, variablesIn, place}
-use Rattle.store.proofs.VariableTableLaws.{width-below}
-use Rattle.store.proofs.LineTableLaws.{operand-variable, variable-fits}
-use Rattle.operand.proofs.VariableUseLaws.{variable-long, variable-found, variable-unknown}
+use Rattle.store.specs.Tables.{variable_mark, head_width, variables_in, place}
+use Rattle.store.proofs.VariableTableLaws.{width_below}
+use Rattle.store.proofs.LineTableLaws.{operand_variable, variable_fits}
+use Rattle.operand.proofs.VariableUseLaws.{variable_long, variable_found, variable_unknown}
 use Rattle.operand.proofs.variables.variable.Statement.{statement}
 use Rattle.operand.proofs.variables.variable.Tie as tie
 
@@ -14,7 +14,7 @@ sub-if1 : tie.Need-overflow-sub-if1
 sub-if1 c = search rules
 
 returns : tie.Need-returns
-returns c = (variable-long _ _ _ c.if1.true, tt)
+returns c = (variable_long _ _ _ c.if1.true, tt)
 
 find-requires : tie.Need-find-requires
 find-requires c κs = search rules
@@ -38,16 +38,16 @@ returns-2 c =
     let s = c.before.before.before.before.before in
     let a = s.before.before.before.before.args in
     let e = w.ensures a.file.now in
-    let b : w.result < variableMark = rw e (width-below a.file.now a.variables.now a.n i) in
-    (rw (c.variable-head.ensures, operand-variable (variableMark + headWidth w.result) i (omega arith)) (variable-found _ _ _ s.before.if1.false _ (ap place (sym c.before.before.before.i.given.1) ∙ s.find.ensures)), rw c.variable-head.ensures (variable-fits (variablesIn a.file.now a.variables.now a.n) i w.result e b))
+    let b : w.result < variable_mark = rw e (width_below a.file.now a.variables.now a.n i) in
+    (rw (c.variable-head.ensures, operand_variable (variable_mark + head_width w.result) i (omega arith)) (variable_found _ _ _ s.before.if1.false _ (ap place (sym c.before.before.before.i.given.1) ∙ s.find.ensures)), rw c.variable-head.ensures (variable_fits (variables_in a.file.now a.variables.now a.n) i w.result e b))
 
 returns-3 : tie.Need-returns-3
 returns-3 c =
     let s = c.before.before in
-    (variable-unknown _ _ _ s.before.if1.false (ap place (sym c.enum_told.given.1) ∙ s.find.ensures), tt)
+    (variable_unknown _ _ _ s.before.if1.false (ap place (sym c.enum_told.given.1) ∙ s.find.ensures), tt)
 
-pub variable-spec : {M : Type 1} → statement M
-variable-spec =
+pub variable_spec : {M : Type 1} → statement M
+variable_spec =
     tie.close
     (tie.spec
     sub-if1

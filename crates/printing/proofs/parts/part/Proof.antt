@@ -1,5 +1,5 @@
 use borrow.Author.Rules.{rules}
-use Rattle.printing.proofs.PartLaws.{part_none, part-rest, part-whole}
+use Rattle.printing.proofs.PartLaws.{part_none, part_rest, part_whole}
 use Rattle.printing.proofs.parts.part.Statement.{statement}
 use Rattle.printing.proofs.parts.part.Tie as tie
 
@@ -10,13 +10,13 @@ sub-if2 : tie.Need-overflow-sub-if2
 sub-if2 c = search rules
 
 returns-2 : tie.Need-returns-2
-returns-2 c = part-rest _ _ _ c.before.if1.false c.if2.true
+returns-2 c = part_rest _ _ _ c.before.if1.false c.if2.true
 
 add-t4 : tie.Need-overflow-add-t4
 add-t4 c = search rules
 
 returns-3 : tie.Need-returns-3
-returns-3 c = part-whole _ _ _ c.before.if1.false c.if2.false
+returns-3 c = part_whole _ _ _ c.before.if1.false c.if2.false
 
-pub part-spec : {M : Type 1} → statement M
-part-spec = tie.close (tie.spec returns sub-if2 returns-2 add-t4 returns-3)
+pub part_spec : {M : Type 1} → statement M
+part_spec = tie.close (tie.spec returns sub-if2 returns-2 add-t4 returns-3)

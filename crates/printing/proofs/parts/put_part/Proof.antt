@@ -29,8 +29,8 @@ same_length c = search rules
 returns : tie.Need-returns
 returns c = rw (part_bytes c.before.before.before.before.before.part.ensures) at c.before.before.put-bytes.ensures
 
-pub put-part-spec : {M : Type 1} → statement M
-put-part-spec =
+pub put_part_spec : {M : Type 1} → statement M
+put_part_spec =
     tie.close
     (tie.spec
     part-requires

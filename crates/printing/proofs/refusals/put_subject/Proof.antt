@@ -28,8 +28,8 @@ returns c =
     let s = c.before.before.before.before.before.before.before.before in
     rw (c.before.before.before.before.before.before.word.ensures, (labelled s.args.subject).front) at c.before.before.put-bytes.ensures
 
-pub put-subject-spec : {M : Type 1} → statement M
-put-subject-spec =
+pub put_subject_spec : {M : Type 1} → statement M
+put_subject_spec =
     tie.close
     (tie.spec
     word-requires

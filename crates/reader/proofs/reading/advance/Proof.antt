@@ -42,8 +42,8 @@ returns-5 c = rw c.before.added4.given.1
 returns-6 : tie.Need-returns-6
 returns-6 c = rw c.enum-told2.given.1
 
-pub advance-spec : {M : Type 1} → statement M
-advance-spec =
+pub advance_spec : {M : Type 1} → statement M
+advance_spec =
     tie.close
     (tie.spec
     enum-known-added

@@ -53,8 +53,8 @@ returns-7 : tie.Need-returns-7
 unfolding kind_of
 returns-7 c = rw (first_byte c.before.before.before.before.before.before.before.before.before.before.before.before.before.args.line.now c.before.before.before.before.before.before.before.before.before.before.before.before.before.args.at, ne_eqb (get_or c.before.before.before.before.before.before.before.before.before.before.before.before.before.args.line.now c.before.before.before.before.before.before.before.before.before.before.before.before.before.args.at 0) 35 c.before.before.before.before.before.before.before.before.before.before.if1.false, sym c.before.before.before.before.before.before.before.before.before.leads.ensures ∙ c.before.before.before.before.before.before.before.before.if2.false, sym c.before.before.before.before.before.before.before.leads2.ensures ∙ c.before.before.before.before.before.before.if3.false, sym c.before.before.before.before.before.leads3.ensures ∙ c.before.before.before.before.if4.false, sym c.before.before.before.leads4.ensures ∙ c.before.before.if5.false, sym c.before.leads5.ensures ∙ c.if6.false)
 
-pub kind-of-spec : {M : Type 1} → statement M
-kind-of-spec =
+pub kind_of_spec : {M : Type 1} → statement M
+kind_of_spec =
     tie.close
     (tie.spec
     shared-slice-read-if1

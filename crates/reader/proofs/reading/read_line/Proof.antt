@@ -8,10 +8,10 @@ use Rattle.text.specs.Lines.{TextLine}
 use Rattle.text.specs.Scan.{line_at}
 use Rattle.constraint.specs.declared.Kind.TheVariants.{Skipped, OfVersion, OfExpectation, OfDeclarations, OfStatement, OfNoKind}
 use Rattle.constraint.specs.File.{File}
-use Rattle.constraint.specs.Read.{readAs}
+use Rattle.constraint.specs.Read.{read_as}
 use Rattle.store.specs.Tables.{Store, store_of}
-use Rattle.store.specs.Progress.{storedFile}
-use Rattle.reader.proofs.ReaderLaws.{of-kind, header-fits, header-searchable, variables-fit, header-room, variables-room}
+use Rattle.store.specs.Progress.{stored_file}
+use Rattle.reader.proofs.ReaderLaws.{of_kind, header_fits, header_searchable, variables_fit, header_room, variables_room}
 use borrow.Author.Rules.{rules}
 use Rattle.reader.proofs.reading.read_line.Statement.{statement}
 use Rattle.reader.proofs.reading.read_line.Tie as tie
@@ -21,7 +21,7 @@ abbrev tables : tie.Start → Store
 tables s = store_of s.args.variables.now s.args.heads.now s.args.bodies.now
 
 abbrev before : tie.Start → File
-before s = storedFile s.args.file.now (tables s) s.args.p
+before s = stored_file s.args.file.now (tables s) s.args.p
 
 abbrev text : tie.Start → List ℕ
 text s = take s.args.stop s.args.file.now
@@ -82,48 +82,48 @@ refusal-requires : tie.Need-refusal-requires
 refusal-requires c κs = search rules
 
 returns : tie.Need-returns
-unfolding readAs
+unfolding read_as
 returns c =
     let s = c.before.before.before.before.before in
-    (λ next. of-kind Skipped (before s) (line s next) c.before.before.kind-of.ensures c.enum_told.given.1, s.requires.4, s.requires.5, tt, λ f. f)
+    (λ next. of_kind Skipped (before s) (line s next) c.before.before.kind-of.ensures c.enum_told.given.1, s.requires.4, s.requires.5, tt, λ f. f)
 
 returns-2 : tie.Need-returns-2
-unfolding readAs
+unfolding read_as
 returns-2 c =
     let r = c.header-line.ensures in
     let s = c.before.before.before.before.before.before.before in
-    (λ next. r.0 s.args.file.now (tables s) next ∙ of-kind OfVersion (before s) (line s next) c.before.before.before.before.kind-of.ensures c.before.before.enum-told2.given.1, s.requires.4, header-searchable s.args.file.now (tables s) s.args.p c.header-line.result r.1 s.requires.5, header-room s.args.p c.header-line.result r.1, header-fits s.args.file.now (tables s) s.args.p c.header-line.result r.1)
+    (λ next. r.0 s.args.file.now (tables s) next ∙ of_kind OfVersion (before s) (line s next) c.before.before.before.before.kind-of.ensures c.before.before.enum-told2.given.1, s.requires.4, header_searchable s.args.file.now (tables s) s.args.p c.header-line.result r.1 s.requires.5, header_room s.args.p c.header-line.result r.1, header_fits s.args.file.now (tables s) s.args.p c.header-line.result r.1)
 
 returns-3 : tie.Need-returns-3
-unfolding readAs
+unfolding read_as
 returns-3 c =
     let r = c.header-line2.ensures in
     let s = c.before.before.before.before.before.before.before in
-    (λ next. r.0 s.args.file.now (tables s) next ∙ of-kind OfExpectation (before s) (line s next) c.before.before.before.before.kind-of.ensures c.before.before.enum-told3.given.1, s.requires.4, header-searchable s.args.file.now (tables s) s.args.p c.header-line2.result r.1 s.requires.5, header-room s.args.p c.header-line2.result r.1, header-fits s.args.file.now (tables s) s.args.p c.header-line2.result r.1)
+    (λ next. r.0 s.args.file.now (tables s) next ∙ of_kind OfExpectation (before s) (line s next) c.before.before.before.before.kind-of.ensures c.before.before.enum-told3.given.1, s.requires.4, header_searchable s.args.file.now (tables s) s.args.p c.header-line2.result r.1 s.requires.5, header_room s.args.p c.header-line2.result r.1, header_fits s.args.file.now (tables s) s.args.p c.header-line2.result r.1)
 
 returns-4 : tie.Need-returns-4
-unfolding readAs
+unfolding read_as
 returns-4 c =
     let r = c.declaration-line.ensures in
     let s = c.before.before.before.before.before.before.before in
-    (λ next. r.0 s.args.heads.now s.args.bodies.now next ∙ of-kind OfDeclarations (before s) (line s next) c.before.before.before.before.kind-of.ensures c.before.before.enum-told4.given.1, record { variables = r.1; heads = s.requires.4.heads; bodies = s.requires.4.bodies }, r.3, variables-room s.args.p c.declaration-line.result r.2, λ f. variables-fit s.args.file.now _ s.args.p c.declaration-line.result r.2)
+    (λ next. r.0 s.args.heads.now s.args.bodies.now next ∙ of_kind OfDeclarations (before s) (line s next) c.before.before.before.before.kind-of.ensures c.before.before.enum-told4.given.1, record { variables = r.1; heads = s.requires.4.heads; bodies = s.requires.4.bodies }, r.3, variables_room s.args.p c.declaration-line.result r.2, λ f. variables_fit s.args.file.now _ s.args.p c.declaration-line.result r.2)
 
 returns-5 : tie.Need-returns-5
-unfolding readAs
+unfolding read_as
 returns-5 c =
     let r = c.read-statement.ensures in
     let k = c.before.before.before.before.before in
     let s = k.before.before.before.before.before in
-    (λ next. r.0 next ∙ of-kind (OfStatement k.form.given.0.0) (before s) (line s next) k.before.before.kind-of.ensures k.form.given.1, record { variables = s.requires.4.variables; heads = r.1; bodies = r.2 }, r.5, r.3, r.4)
+    (λ next. r.0 next ∙ of_kind (OfStatement k.form.given.0.0) (before s) (line s next) k.before.before.kind-of.ensures k.form.given.1, record { variables = s.requires.4.variables; heads = r.1; bodies = r.2 }, r.5, r.3, r.4)
 
 returns-6 : tie.Need-returns-6
-unfolding readAs
+unfolding read_as
 returns-6 c =
     let s = c.before.before.before.before.before.before in
-    (λ next. rw c.refusal.ensures (of-kind OfNoKind (before s) (line s next) c.before.before.before.kind-of.ensures c.before.enum-told5.given.1), s.requires.4, tt, tt, λ f. tt)
+    (λ next. rw c.refusal.ensures (of_kind OfNoKind (before s) (line s next) c.before.before.before.kind-of.ensures c.before.enum-told5.given.1), s.requires.4, tt, tt, λ f. tt)
 
-pub read-line-spec : {M : Type 1} → statement M
-read-line-spec =
+pub read_line_spec : {M : Type 1} → statement M
+read_line_spec =
     tie.close
     (tie.spec
     slice-aggregate-kind-of

@@ -6,11 +6,11 @@ use lib.ListN.{length, take}
 use lib.Seq.{length-take-le}
 use Rattle.refusal.specs.Result.{accepted}
 use Rattle.constraint.specs.File.{File}
-use Rattle.constraint.specs.Read.{addLine}
+use Rattle.constraint.specs.Read.{add_line}
 use Rattle.store.specs.Tables.{store_of}
-use Rattle.store.specs.Progress.{storedFile}
-use Rattle.store.proofs.LineTableLaws.{lines-length}
-use Rattle.reader.proofs.ReaderLaws.{line-added, line-fits}
+use Rattle.store.specs.Progress.{stored_file}
+use Rattle.store.proofs.LineTableLaws.{lines_length}
+use Rattle.reader.proofs.ReaderLaws.{line_added, line_fits}
 use borrow.Author.Rules.{rules}
 use Rattle.reader.proofs.reading.read_statement.Statement.{statement}
 use Rattle.reader.proofs.reading.read_statement.Tie as tie
@@ -27,10 +27,10 @@ starts-in s = omega (arith, long s, s.requires.0)
 
 -- the file as it is held, and how many lines it has
 abbrev held : tie.Start → File
-held s = storedFile s.args.file.now (store_of s.args.variables.now s.args.heads.now s.args.bodies.now) s.args.p
+held s = stored_file s.args.file.now (store_of s.args.variables.now s.args.heads.now s.args.bodies.now) s.args.p
 
 count : (s : tie.Start) → length (held s).lines ≡ s.args.p.lines
-count s = lines-length s.args.heads.now s.args.bodies.now s.args.p.lines
+count s = lines_length s.args.heads.now s.args.bodies.now s.args.p.lines
 
 slice-aggregate-line : tie.Need-slice-aggregate-line
 slice-aggregate-line c = sym (long c.before.before)
@@ -50,7 +50,7 @@ returns : tie.Need-returns
 returns c =
     let r = c.before.before.before.statement-line.ensures in
     let s = c.before.before.before.before.before.before.before.before in
-    (λ next. ap (addLine (held s)) (rw c.before.r.given.1 at (r.0 (held s) next refl (count s))), r.3, r.4, tt, (λ f. tt), tt)
+    (λ next. ap (add_line (held s)) (rw c.before.r.given.1 at (r.0 (held s) next refl (count s))), r.3, r.4, tt, (λ f. tt), tt)
 
 returns-2 : tie.Need-returns-2
 returns-2 c =
@@ -58,10 +58,10 @@ returns-2 c =
     let s = c.before.before.before.before.before.before.before in
     let g = c.enum_told.given.1 in
     let fits = rw g at r.2 in
-    (λ next. ap accepted (line-added s.args.file.now s.args.variables.now _ _ _ _ s.args.p r.1) ∙ ap (addLine (held s)) (rw g at (r.0 (held s) next refl (count s))), r.3, r.4, fits.0, line-fits s.args.file.now s.args.variables.now _ _ _ _ s.args.p r.1 fits.1, s.requires.5)
+    (λ next. ap accepted (line_added s.args.file.now s.args.variables.now _ _ _ _ s.args.p r.1) ∙ ap (add_line (held s)) (rw g at (r.0 (held s) next refl (count s))), r.3, r.4, fits.0, line_fits s.args.file.now s.args.variables.now _ _ _ _ s.args.p r.1 fits.1, s.requires.5)
 
-pub read-statement-spec : {M : Type 1} → statement M
-read-statement-spec =
+pub read_statement_spec : {M : Type 1} → statement M
+read_statement_spec =
     tie.close
     (tie.spec
     slice-aggregate-line

@@ -57,8 +57,8 @@ returns-8 c = rw c.before.before.enum-told8.given.1
 returns-9 : tie.Need-returns-9
 returns-9 c = rw c.before.before.enum-told9.given.1
 
-pub word-spec : {M : Type 1} → statement M
-word-spec =
+pub word_spec : {M : Type 1} → statement M
+word_spec =
     tie.close
     (tie.spec
     enum_told

@@ -1,9 +1,9 @@
-use Rattle.spear.proofs.KeptLaws.{check-kept}
+use Rattle.spear.proofs.KeptLaws.{check_kept}
 use Rattle.spear.proofs.claims.check_kept.Statement.{statement}
 use Rattle.spear.proofs.claims.check_kept.Tie as tie
 
 returns : tie.Need-returns
-returns c = check-kept
+returns c = check_kept
 
-pub check-kept-spec : {M : Type 1} → statement M
-check-kept-spec = tie.close (tie.spec returns)
+pub check_kept_spec : {M : Type 1} → statement M
+check_kept_spec = tie.close (tie.spec returns)

@@ -1,9 +1,9 @@
-use Rattle.spear.proofs.CodeLaws.{codes-are}
+use Rattle.spear.proofs.CodeLaws.{codes_are}
 use Rattle.spear.proofs.claims.codes_are.Statement.{statement}
 use Rattle.spear.proofs.claims.codes_are.Tie as tie
 
 returns : tie.Need-returns
-returns c = codes-are
+returns c = codes_are
 
-pub codes-are-spec : {M : Type 1} → statement M
-codes-are-spec = tie.close (tie.spec returns)
+pub codes_are_spec : {M : Type 1} → statement M
+codes_are_spec = tie.close (tie.spec returns)

@@ -5,5 +5,5 @@ use Rattle.spear.proofs.claims.index_kept.Tie as tie
 returns : tie.Need-returns
 returns c = index_kept
 
-pub index-kept-spec : {M : Type 1} → statement M
-index-kept-spec = tie.close (tie.spec returns)
+pub index_kept_spec : {M : Type 1} → statement M
+index_kept_spec = tie.close (tie.spec returns)

@@ -1,9 +1,9 @@
-use Rattle.spear.proofs.CodeLaws.{kind-zero-exactly}
+use Rattle.spear.proofs.CodeLaws.{kind_zero_exactly}
 use Rattle.spear.proofs.claims.kind_zero_exactly.Statement.{statement}
 use Rattle.spear.proofs.claims.kind_zero_exactly.Tie as tie
 
 returns : tie.Need-returns
-returns c = kind-zero-exactly
+returns c = kind_zero_exactly
 
-pub kind-zero-exactly-spec : {M : Type 1} → statement M
-kind-zero-exactly-spec = tie.close (tie.spec returns)
+pub kind_zero_exactly_spec : {M : Type 1} → statement M
+kind_zero_exactly_spec = tie.close (tie.spec returns)

@@ -5,5 +5,5 @@ use Rattle.spear.proofs.claims.write_kept.Tie as tie
 returns : tie.Need-returns
 returns c = write_kept
 
-pub write-kept-spec : {M : Type 1} → statement M
-write-kept-spec = tie.close (tie.spec returns)
+pub write_kept_spec : {M : Type 1} → statement M
+write_kept_spec = tie.close (tie.spec returns)

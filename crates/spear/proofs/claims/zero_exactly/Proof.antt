@@ -1,9 +1,9 @@
-use Rattle.spear.proofs.CodeLaws.{zero-exactly}
+use Rattle.spear.proofs.CodeLaws.{zero_exactly}
 use Rattle.spear.proofs.claims.zero_exactly.Statement.{statement}
 use Rattle.spear.proofs.claims.zero_exactly.Tie as tie
 
 returns : tie.Need-returns
-returns c = zero-exactly
+returns c = zero_exactly
 
-pub zero-exactly-spec : {M : Type 1} → statement M
-zero-exactly-spec = tie.close (tie.spec returns)
+pub zero_exactly_spec : {M : Type 1} → statement M
+zero_exactly_spec = tie.close (tie.spec returns)

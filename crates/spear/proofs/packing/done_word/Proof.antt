@@ -1,6 +1,6 @@
 use mathlib.Core.Path.{refl}
 use borrow.Author.Rules.{rules}
-use Rattle.spear.specs.Pack.{doneWord}
+use Rattle.spear.specs.Pack.{done_word}
 use Rattle.spear.proofs.packing.done_word.Statement.{statement}
 use Rattle.spear.proofs.packing.done_word.Tie as tie
 
@@ -11,8 +11,8 @@ add-result : tie.Need-overflow-add-result
 add-result c = search rules
 
 returns : tie.Need-returns
-unfolding doneWord
+unfolding done_word
 returns c = refl
 
-pub done-word-spec : {M : Type 1} → statement M
-done-word-spec = tie.close (tie.spec mul-result add-result returns)
+pub done_word_spec : {M : Type 1} → statement M
+done_word_spec = tie.close (tie.spec mul-result add-result returns)

@@ -29,8 +29,8 @@ returns c = rw (c.before.before.before.before.reply.given.1, ← c.before.before
 returns-2 : tie.Need-returns-2
 returns-2 c = rw c.before.before.reply2.given.1 c.pack-refusal.ensures
 
-pub pack-change-spec : {M : Type 1} → statement M
-pack-change-spec =
+pub pack_change_spec : {M : Type 1} → statement M
+pack_change_spec =
     tie.close
     (tie.spec
     enum-known-reply

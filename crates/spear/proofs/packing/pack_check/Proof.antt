@@ -29,8 +29,8 @@ returns c = rw (c.before.before.before.before.reply.given.1, ← c.before.before
 returns-2 : tie.Need-returns-2
 returns-2 c = rw c.before.before.reply2.given.1 c.pack-refusal.ensures
 
-pub pack-check-spec : {M : Type 1} → statement M
-pack-check-spec =
+pub pack_check_spec : {M : Type 1} → statement M
+pack_check_spec =
     tie.close
     (tie.spec
     enum-known-reply

@@ -20,8 +20,8 @@ returns c = rw c.before.before.reply.given.1 c.done-word.ensures
 returns-2 : tie.Need-returns-2
 returns-2 c = rw c.before.before.reply2.given.1 c.pack-refusal.ensures
 
-pub pack-index-spec : {M : Type 1} → statement M
-pack-index-spec =
+pub pack_index_spec : {M : Type 1} → statement M
+pack_index_spec =
     tie.close
     (tie.spec
     enum-known-reply

@@ -14,6 +14,6 @@ refusal-word-requires c κs = search rules
 returns : tie.Need-returns
 returns c = rw (← c.before.subject-number.ensures) c.refusal-word.ensures
 
-pub pack-refusal-spec : {M : Type 1} → statement M
-pack-refusal-spec =
+pub pack_refusal_spec : {M : Type 1} → statement M
+pack_refusal_spec =
     tie.close (tie.spec cast-refusal-word subject-number-requires refusal-word-requires returns)

@@ -20,8 +20,8 @@ returns c = rw c.before.before.reply.given.1 c.done-word.ensures
 returns-2 : tie.Need-returns-2
 returns-2 c = rw c.before.before.reply2.given.1 c.pack-refusal.ensures
 
-pub pack-write-spec : {M : Type 1} → statement M
-pack-write-spec =
+pub pack_write_spec : {M : Type 1} → statement M
+pack_write_spec =
     tie.close
     (tie.spec
     enum-known-reply

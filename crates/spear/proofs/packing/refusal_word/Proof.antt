@@ -1,5 +1,5 @@
 use mathlib.Core.Path.{refl}
-use Rattle.spear.specs.Pack.{refusalWord}
+use Rattle.spear.specs.Pack.{refusal_word}
 use borrow.Author.Rules.{rules}
 use Rattle.spear.proofs.packing.refusal_word.Statement.{statement}
 use Rattle.spear.proofs.packing.refusal_word.Tie as tie
@@ -23,10 +23,10 @@ add-result-3 : tie.Need-overflow-add-result-3
 add-result-3 c = search rules
 
 returns : tie.Need-returns
-unfolding refusalWord
+unfolding refusal_word
 returns c = refl
 
-pub refusal-word-spec : {M : Type 1} → statement M
-refusal-word-spec =
+pub refusal_word_spec : {M : Type 1} → statement M
+refusal_word_spec =
     tie.close
     (tie.spec mul-result add-result mul-result-2 add-result-2 mul-result-3 add-result-3 returns)

@@ -1,5 +1,5 @@
 use mathlib.Core.Path.{refl}
-use Rattle.spear.specs.Pack.{verdictWord}
+use Rattle.spear.specs.Pack.{verdict_word}
 use borrow.Author.Rules.{rules}
 use Rattle.spear.proofs.packing.verdict_word.Statement.{statement}
 use Rattle.spear.proofs.packing.verdict_word.Tie as tie
@@ -29,11 +29,11 @@ add-result-4 : tie.Need-overflow-add-result-4
 add-result-4 c = search rules
 
 returns : tie.Need-returns
-unfolding verdictWord
+unfolding verdict_word
 returns c = refl
 
-pub verdict-word-spec : {M : Type 1} → statement M
-verdict-word-spec =
+pub verdict_word_spec : {M : Type 1} → statement M
+verdict_word_spec =
     tie.close
     (tie.spec
     mul-result

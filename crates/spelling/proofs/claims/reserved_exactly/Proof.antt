@@ -1,9 +1,9 @@
-use Rattle.spelling.proofs.ReservedLaws.{reserved-exactly}
+use Rattle.spelling.proofs.ReservedLaws.{reserved_exactly}
 use Rattle.spelling.proofs.claims.reserved_exactly.Statement.{statement}
 use Rattle.spelling.proofs.claims.reserved_exactly.Tie as tie
 
 returns : tie.Need-returns
-returns c = reserved-exactly
+returns c = reserved_exactly
 
-pub reserved-exactly-spec : {M : Type 1} → statement M
-reserved-exactly-spec = tie.close (tie.spec returns)
+pub reserved_exactly_spec : {M : Type 1} → statement M
+reserved_exactly_spec = tie.close (tie.spec returns)

@@ -1,6 +1,6 @@
 use borrow.Author.Rules.{rules}
-use Rattle.arithmetic.specs.Numbering.{bitwiseNumber, comparisonNumber, arithmeticNumber, divisionNumber, shiftNumber, extensionNumber, operatorNumber}
-use Rattle.spelling.specs.Operators.{bitwiseSpellings, predicateSpellings, arithmeticSpellings, shiftAndCastSpellings, spellings, spellingIn, spellingOf}
+use Rattle.arithmetic.specs.Numbering.{bitwise_number, comparison_number, arithmetic_number, division_number, shift_number, extension_number, operator_number}
+use Rattle.spelling.specs.Operators.{bitwise_spellings, predicate_spellings, arithmetic_spellings, shift_and_cast_spellings, spellings, spelling_in, spelling_of}
 use Rattle.spelling.proofs.symbols.bitwise_symbol.Statement.{statement}
 use Rattle.spelling.proofs.symbols.bitwise_symbol.Tie as tie
 
@@ -23,19 +23,19 @@ made-of-requires-3 : tie.Need-made-of-requires-3
 made-of-requires-3 c κs = search rules
 
 returns : tie.Need-returns
-unfolding spellingOf spellingIn spellings bitwiseSpellings predicateSpellings arithmeticSpellings shiftAndCastSpellings operatorNumber bitwiseNumber comparisonNumber arithmeticNumber divisionNumber shiftNumber extensionNumber
+unfolding spelling_of spelling_in spellings bitwise_spellings predicate_spellings arithmetic_spellings shift_and_cast_spellings operator_number bitwise_number comparison_number arithmetic_number division_number shift_number extension_number
 returns c e = rw c.before.before.before.enum_told.given.1 c.made_of.ensures
 
 returns-2 : tie.Need-returns-2
-unfolding spellingOf spellingIn spellings bitwiseSpellings predicateSpellings arithmeticSpellings shiftAndCastSpellings operatorNumber bitwiseNumber comparisonNumber arithmeticNumber divisionNumber shiftNumber extensionNumber
+unfolding spelling_of spelling_in spellings bitwise_spellings predicate_spellings arithmetic_spellings shift_and_cast_spellings operator_number bitwise_number comparison_number arithmetic_number division_number shift_number extension_number
 returns-2 c e = rw c.before.before.before.enum-told2.given.1 c.made-of2.ensures
 
 returns-3 : tie.Need-returns-3
-unfolding spellingOf spellingIn spellings bitwiseSpellings predicateSpellings arithmeticSpellings shiftAndCastSpellings operatorNumber bitwiseNumber comparisonNumber arithmeticNumber divisionNumber shiftNumber extensionNumber
+unfolding spelling_of spelling_in spellings bitwise_spellings predicate_spellings arithmetic_spellings shift_and_cast_spellings operator_number bitwise_number comparison_number arithmetic_number division_number shift_number extension_number
 returns-3 c e = rw c.before.before.before.enum-told3.given.1 c.made-of3.ensures
 
-pub bitwise-symbol-spec : {M : Type 1} → statement M
-bitwise-symbol-spec =
+pub bitwise_symbol_spec : {M : Type 1} → statement M
+bitwise_symbol_spec =
     tie.close
     (tie.spec
     enum_told

@@ -1,6 +1,6 @@
 use borrow.Author.Rules.{rules}
-use Rattle.arithmetic.specs.Numbering.{bitwiseNumber, comparisonNumber, arithmeticNumber, divisionNumber, shiftNumber, extensionNumber, operatorNumber}
-use Rattle.spelling.specs.Operators.{bitwiseSpellings, predicateSpellings, arithmeticSpellings, shiftAndCastSpellings, spellings, spellingIn, spellingOf}
+use Rattle.arithmetic.specs.Numbering.{bitwise_number, comparison_number, arithmetic_number, division_number, shift_number, extension_number, operator_number}
+use Rattle.spelling.specs.Operators.{bitwise_spellings, predicate_spellings, arithmetic_spellings, shift_and_cast_spellings, spellings, spelling_in, spelling_of}
 use Rattle.spelling.proofs.symbols.comparison_symbol.Statement.{statement}
 use Rattle.spelling.proofs.symbols.comparison_symbol.Tie as tie
 
@@ -65,47 +65,47 @@ made-of-requires-10 : tie.Need-made-of-requires-10
 made-of-requires-10 c κs = search rules
 
 returns : tie.Need-returns
-unfolding spellingOf spellingIn spellings bitwiseSpellings predicateSpellings arithmeticSpellings shiftAndCastSpellings operatorNumber bitwiseNumber comparisonNumber arithmeticNumber divisionNumber shiftNumber extensionNumber
+unfolding spelling_of spelling_in spellings bitwise_spellings predicate_spellings arithmetic_spellings shift_and_cast_spellings operator_number bitwise_number comparison_number arithmetic_number division_number shift_number extension_number
 returns c e = rw c.before.before.before.enum_told.given.1 c.made_of.ensures
 
 returns-2 : tie.Need-returns-2
-unfolding spellingOf spellingIn spellings bitwiseSpellings predicateSpellings arithmeticSpellings shiftAndCastSpellings operatorNumber bitwiseNumber comparisonNumber arithmeticNumber divisionNumber shiftNumber extensionNumber
+unfolding spelling_of spelling_in spellings bitwise_spellings predicate_spellings arithmetic_spellings shift_and_cast_spellings operator_number bitwise_number comparison_number arithmetic_number division_number shift_number extension_number
 returns-2 c e = rw c.before.before.before.enum-told2.given.1 c.made-of2.ensures
 
 returns-3 : tie.Need-returns-3
-unfolding spellingOf spellingIn spellings bitwiseSpellings predicateSpellings arithmeticSpellings shiftAndCastSpellings operatorNumber bitwiseNumber comparisonNumber arithmeticNumber divisionNumber shiftNumber extensionNumber
+unfolding spelling_of spelling_in spellings bitwise_spellings predicate_spellings arithmetic_spellings shift_and_cast_spellings operator_number bitwise_number comparison_number arithmetic_number division_number shift_number extension_number
 returns-3 c e = rw c.before.before.before.enum-told3.given.1 c.made-of3.ensures
 
 returns-4 : tie.Need-returns-4
-unfolding spellingOf spellingIn spellings bitwiseSpellings predicateSpellings arithmeticSpellings shiftAndCastSpellings operatorNumber bitwiseNumber comparisonNumber arithmeticNumber divisionNumber shiftNumber extensionNumber
+unfolding spelling_of spelling_in spellings bitwise_spellings predicate_spellings arithmetic_spellings shift_and_cast_spellings operator_number bitwise_number comparison_number arithmetic_number division_number shift_number extension_number
 returns-4 c e = rw c.before.before.before.enum-told4.given.1 c.made-of4.ensures
 
 returns-5 : tie.Need-returns-5
-unfolding spellingOf spellingIn spellings bitwiseSpellings predicateSpellings arithmeticSpellings shiftAndCastSpellings operatorNumber bitwiseNumber comparisonNumber arithmeticNumber divisionNumber shiftNumber extensionNumber
+unfolding spelling_of spelling_in spellings bitwise_spellings predicate_spellings arithmetic_spellings shift_and_cast_spellings operator_number bitwise_number comparison_number arithmetic_number division_number shift_number extension_number
 returns-5 c e = rw c.before.before.before.enum-told5.given.1 c.made-of5.ensures
 
 returns-6 : tie.Need-returns-6
-unfolding spellingOf spellingIn spellings bitwiseSpellings predicateSpellings arithmeticSpellings shiftAndCastSpellings operatorNumber bitwiseNumber comparisonNumber arithmeticNumber divisionNumber shiftNumber extensionNumber
+unfolding spelling_of spelling_in spellings bitwise_spellings predicate_spellings arithmetic_spellings shift_and_cast_spellings operator_number bitwise_number comparison_number arithmetic_number division_number shift_number extension_number
 returns-6 c e = rw c.before.before.before.enum-told6.given.1 c.made-of6.ensures
 
 returns-7 : tie.Need-returns-7
-unfolding spellingOf spellingIn spellings bitwiseSpellings predicateSpellings arithmeticSpellings shiftAndCastSpellings operatorNumber bitwiseNumber comparisonNumber arithmeticNumber divisionNumber shiftNumber extensionNumber
+unfolding spelling_of spelling_in spellings bitwise_spellings predicate_spellings arithmetic_spellings shift_and_cast_spellings operator_number bitwise_number comparison_number arithmetic_number division_number shift_number extension_number
 returns-7 c e = rw c.before.before.before.enum-told7.given.1 c.made-of7.ensures
 
 returns-8 : tie.Need-returns-8
-unfolding spellingOf spellingIn spellings bitwiseSpellings predicateSpellings arithmeticSpellings shiftAndCastSpellings operatorNumber bitwiseNumber comparisonNumber arithmeticNumber divisionNumber shiftNumber extensionNumber
+unfolding spelling_of spelling_in spellings bitwise_spellings predicate_spellings arithmetic_spellings shift_and_cast_spellings operator_number bitwise_number comparison_number arithmetic_number division_number shift_number extension_number
 returns-8 c e = rw c.before.before.before.enum-told8.given.1 c.made-of8.ensures
 
 returns-9 : tie.Need-returns-9
-unfolding spellingOf spellingIn spellings bitwiseSpellings predicateSpellings arithmeticSpellings shiftAndCastSpellings operatorNumber bitwiseNumber comparisonNumber arithmeticNumber divisionNumber shiftNumber extensionNumber
+unfolding spelling_of spelling_in spellings bitwise_spellings predicate_spellings arithmetic_spellings shift_and_cast_spellings operator_number bitwise_number comparison_number arithmetic_number division_number shift_number extension_number
 returns-9 c e = rw c.before.before.before.enum-told9.given.1 c.made-of9.ensures
 
 returns-10 : tie.Need-returns-10
-unfolding spellingOf spellingIn spellings bitwiseSpellings predicateSpellings arithmeticSpellings shiftAndCastSpellings operatorNumber bitwiseNumber comparisonNumber arithmeticNumber divisionNumber shiftNumber extensionNumber
+unfolding spelling_of spelling_in spellings bitwise_spellings predicate_spellings arithmetic_spellings shift_and_cast_spellings operator_number bitwise_number comparison_number arithmetic_number division_number shift_number extension_number
 returns-10 c e = rw c.before.before.before.enum-told10.given.1 c.made-of10.ensures
 
-pub comparison-symbol-spec : {M : Type 1} → statement M
-comparison-symbol-spec =
+pub comparison_symbol_spec : {M : Type 1} → statement M
+comparison_symbol_spec =
     tie.close
     (tie.spec
     enum_told

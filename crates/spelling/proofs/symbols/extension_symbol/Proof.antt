@@ -1,6 +1,6 @@
 use borrow.Author.Rules.{rules}
-use Rattle.arithmetic.specs.Numbering.{bitwiseNumber, comparisonNumber, arithmeticNumber, divisionNumber, shiftNumber, extensionNumber, operatorNumber}
-use Rattle.spelling.specs.Operators.{bitwiseSpellings, predicateSpellings, arithmeticSpellings, shiftAndCastSpellings, spellings, spellingIn, spellingOf}
+use Rattle.arithmetic.specs.Numbering.{bitwise_number, comparison_number, arithmetic_number, division_number, shift_number, extension_number, operator_number}
+use Rattle.spelling.specs.Operators.{bitwise_spellings, predicate_spellings, arithmetic_spellings, shift_and_cast_spellings, spellings, spelling_in, spelling_of}
 use Rattle.spelling.proofs.symbols.extension_symbol.Statement.{statement}
 use Rattle.spelling.proofs.symbols.extension_symbol.Tie as tie
 
@@ -17,14 +17,14 @@ made-of-requires-2 : tie.Need-made-of-requires-2
 made-of-requires-2 c κs = search rules
 
 returns : tie.Need-returns
-unfolding spellingOf spellingIn spellings bitwiseSpellings predicateSpellings arithmeticSpellings shiftAndCastSpellings operatorNumber bitwiseNumber comparisonNumber arithmeticNumber divisionNumber shiftNumber extensionNumber
+unfolding spelling_of spelling_in spellings bitwise_spellings predicate_spellings arithmetic_spellings shift_and_cast_spellings operator_number bitwise_number comparison_number arithmetic_number division_number shift_number extension_number
 returns c e = rw c.before.before.before.enum_told.given.1 c.made_of.ensures
 
 returns-2 : tie.Need-returns-2
-unfolding spellingOf spellingIn spellings bitwiseSpellings predicateSpellings arithmeticSpellings shiftAndCastSpellings operatorNumber bitwiseNumber comparisonNumber arithmeticNumber divisionNumber shiftNumber extensionNumber
+unfolding spelling_of spelling_in spellings bitwise_spellings predicate_spellings arithmetic_spellings shift_and_cast_spellings operator_number bitwise_number comparison_number arithmetic_number division_number shift_number extension_number
 returns-2 c e = rw c.before.before.before.enum-told2.given.1 c.made-of2.ensures
 
-pub extension-symbol-spec : {M : Type 1} → statement M
-extension-symbol-spec =
+pub extension_symbol_spec : {M : Type 1} → statement M
+extension_symbol_spec =
     tie.close
     (tie.spec enum_told made-of-requires enum-told-2 made-of-requires-2 returns returns-2)

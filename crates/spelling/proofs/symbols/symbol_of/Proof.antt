@@ -1,6 +1,6 @@
 use borrow.Author.Rules.{rules}
-use Rattle.arithmetic.specs.Numbering.{bitwiseNumber, comparisonNumber, arithmeticNumber, divisionNumber, shiftNumber, extensionNumber, operatorNumber}
-use Rattle.spelling.specs.Operators.{bitwiseSpellings, predicateSpellings, arithmeticSpellings, shiftAndCastSpellings, spellings, spellingIn, spellingOf}
+use Rattle.arithmetic.specs.Numbering.{bitwise_number, comparison_number, arithmetic_number, division_number, shift_number, extension_number, operator_number}
+use Rattle.spelling.specs.Operators.{bitwise_spellings, predicate_spellings, arithmetic_spellings, shift_and_cast_spellings, spellings, spelling_in, spelling_of}
 use Rattle.spelling.proofs.symbols.symbol_of.Statement.{statement}
 use Rattle.spelling.proofs.symbols.symbol_of.Tie as tie
 
@@ -80,18 +80,18 @@ returns : tie.Need-returns
 returns c e = rw c.before.before.op.given.1 (c.bitwise-symbol.ensures e)
 
 returns-2 : tie.Need-returns-2
-unfolding spellingOf spellingIn spellings bitwiseSpellings predicateSpellings arithmeticSpellings shiftAndCastSpellings operatorNumber bitwiseNumber comparisonNumber arithmeticNumber divisionNumber shiftNumber extensionNumber
+unfolding spelling_of spelling_in spellings bitwise_spellings predicate_spellings arithmetic_spellings shift_and_cast_spellings operator_number bitwise_number comparison_number arithmetic_number division_number shift_number extension_number
 returns-2 c e = rw c.before.before.before.enum_told.given.1 c.made_of.ensures
 
 returns-3 : tie.Need-returns-3
-unfolding spellingOf spellingIn spellings bitwiseSpellings predicateSpellings arithmeticSpellings shiftAndCastSpellings operatorNumber bitwiseNumber comparisonNumber arithmeticNumber divisionNumber shiftNumber extensionNumber
+unfolding spelling_of spelling_in spellings bitwise_spellings predicate_spellings arithmetic_spellings shift_and_cast_spellings operator_number bitwise_number comparison_number arithmetic_number division_number shift_number extension_number
 returns-3 c e = rw c.before.before.before.enum-told2.given.1 c.made-of2.ensures
 
 returns-4 : tie.Need-returns-4
 returns-4 c e = rw c.before.before.op2.given.1 (c.comparison-symbol.ensures e)
 
 returns-5 : tie.Need-returns-5
-unfolding spellingOf spellingIn spellings bitwiseSpellings predicateSpellings arithmeticSpellings shiftAndCastSpellings operatorNumber bitwiseNumber comparisonNumber arithmeticNumber divisionNumber shiftNumber extensionNumber
+unfolding spelling_of spelling_in spellings bitwise_spellings predicate_spellings arithmetic_spellings shift_and_cast_spellings operator_number bitwise_number comparison_number arithmetic_number division_number shift_number extension_number
 returns-5 c e = rw c.before.before.before.enum-told3.given.1 c.made-of3.ensures
 
 returns-6 : tie.Need-returns-6
@@ -104,22 +104,22 @@ returns-8 : tie.Need-returns-8
 returns-8 c e = rw c.before.before.op5.given.1 (c.shift-symbol.ensures e)
 
 returns-9 : tie.Need-returns-9
-unfolding spellingOf spellingIn spellings bitwiseSpellings predicateSpellings arithmeticSpellings shiftAndCastSpellings operatorNumber bitwiseNumber comparisonNumber arithmeticNumber divisionNumber shiftNumber extensionNumber
+unfolding spelling_of spelling_in spellings bitwise_spellings predicate_spellings arithmetic_spellings shift_and_cast_spellings operator_number bitwise_number comparison_number arithmetic_number division_number shift_number extension_number
 returns-9 c e = rw c.before.before.before.enum-told4.given.1 c.made-of4.ensures
 
 returns-10 : tie.Need-returns-10
 returns-10 c e = rw c.before.before.op6.given.1 (c.extension-symbol.ensures e)
 
 returns-11 : tie.Need-returns-11
-unfolding spellingOf spellingIn spellings bitwiseSpellings predicateSpellings arithmeticSpellings shiftAndCastSpellings operatorNumber bitwiseNumber comparisonNumber arithmeticNumber divisionNumber shiftNumber extensionNumber
+unfolding spelling_of spelling_in spellings bitwise_spellings predicate_spellings arithmetic_spellings shift_and_cast_spellings operator_number bitwise_number comparison_number arithmetic_number division_number shift_number extension_number
 returns-11 c e = rw c.before.before.before.enum-told5.given.1 c.made-of5.ensures
 
 returns-12 : tie.Need-returns-12
-unfolding spellingOf spellingIn spellings bitwiseSpellings predicateSpellings arithmeticSpellings shiftAndCastSpellings operatorNumber bitwiseNumber comparisonNumber arithmeticNumber divisionNumber shiftNumber extensionNumber
+unfolding spelling_of spelling_in spellings bitwise_spellings predicate_spellings arithmetic_spellings shift_and_cast_spellings operator_number bitwise_number comparison_number arithmetic_number division_number shift_number extension_number
 returns-12 c e = rw c.before.before.before.enum-told6.given.1 c.made-of6.ensures
 
-pub symbol-of-spec : {M : Type 1} → statement M
-symbol-of-spec =
+pub symbol_of_spec : {M : Type 1} → statement M
+symbol_of_spec =
     tie.close
     (tie.spec
     enum-known-op

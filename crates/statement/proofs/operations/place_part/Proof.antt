@@ -1,9 +1,9 @@
 use Prim.Native.Nat.{◌<◌}
 use mathlib.Core.Path.{◌∙◌}
 use native.Mathlib.Omega.{arith}
-use Rattle.store.specs.Tables.{lineBodies}
-use Rattle.store.proofs.LineTableLaws.{kept-head, kept-body, fit-operand}
-use Rattle.statement.proofs.OperandLaws.{next-refused, next-placed, blank-placed}
+use Rattle.store.specs.Tables.{line_bodies}
+use Rattle.store.proofs.LineTableLaws.{kept_head, kept_body, fit_operand}
+use Rattle.statement.proofs.OperandLaws.{next_refused, next_placed, blank_placed}
 use borrow.Author.Rules.{rules}
 use Rattle.statement.proofs.operations.place_part.Statement.{statement}
 use Rattle.statement.proofs.operations.place_part.Tie as tie
@@ -48,7 +48,7 @@ returns-2 c =
     let b = q.before.before.before-operand.ensures in
     let s = q.before.before.before.before.before.before in
     let bodies = s.args.bodies.now in
-    (λ f start next v h blank. next-refused f _ s.args.slot _ _ _ _ _ v _ (rw c.before.r2.given.1 at (c.before.before.before.take-operand.ensures.0 start next h)) ∙ rw q.q.given.1 at (b.0 bodies f start next h blank), b.1 bodies, b.2 bodies _, λ blank h. rw (b.3 (omega arith)) (blank (omega arith)), b.4, s.requires.5, tt)
+    (λ f start next v h blank. next_refused f _ s.args.slot _ _ _ _ _ v _ (rw c.before.r2.given.1 at (c.before.before.before.take-operand.ensures.0 start next h)) ∙ rw q.q.given.1 at (b.0 bodies f start next h blank), b.1 bodies, b.2 bodies _, λ blank h. rw (b.3 (omega arith)) (blank (omega arith)), b.4, s.requires.5, tt)
 
 returns-3 : tie.Need-returns-3
 returns-3 c =
@@ -61,20 +61,20 @@ returns-3 c =
     let m = s.args.m in
     let p = rw q.q.given.1 at b.5 in
     let k = t.before.before.take-operand.ensures in
-    let room : slot < lineBodies = omega (arith, p.1, p.0.most) in
+    let room : slot < line_bodies = omega (arith, p.1, p.0.most) in
     let put = c.before.before.put-head.ensures in
     let put₂ = c.put-body.ensures in (
-      λ f start next v h blank. rw (put.1, put₂.1) (next-placed _ bodies m slot _ _ s.requires.6 room b.4 s.requires.5 f _ _ _ _ _ v _ (rw t.head.given.1 at (k.0 start next h))) ∙ rw q.q.given.1 at (b.0 bodies f start next h blank),
-      rw (put.1, put₂.1) (kept-body (kept-head (b.1 bodies) slot _) slot _),
-      λ f. rw (put.1, put₂.1) (fit-operand _ bodies m slot _ _ s.requires.6 room b.4 s.requires.5 _ (b.2 bodies _ f) (rw t.head.given.1 at k.2)),
-      λ blank h. rw (put.1, put₂.1) (blank-placed _ bodies m slot _ _ s.requires.6 room b.4 s.requires.5 (omega arith) (rw (b.3 (omega arith)) (blank (omega arith)))),
+      λ f start next v h blank. rw (put.1, put₂.1) (next_placed _ bodies m slot _ _ s.requires.6 room b.4 s.requires.5 f _ _ _ _ _ v _ (rw t.head.given.1 at (k.0 start next h))) ∙ rw q.q.given.1 at (b.0 bodies f start next h blank),
+      rw (put.1, put₂.1) (kept_body (kept_head (b.1 bodies) slot _) slot _),
+      λ f. rw (put.1, put₂.1) (fit_operand _ bodies m slot _ _ s.requires.6 room b.4 s.requires.5 _ (b.2 bodies _ f) (rw t.head.given.1 at k.2)),
+      λ blank h. rw (put.1, put₂.1) (blank_placed _ bodies m slot _ _ s.requires.6 room b.4 s.requires.5 (omega arith) (rw (b.3 (omega arith)) (blank (omega arith)))),
       put.0,
       put₂.0,
       (record { at = rw t.head.given.1 at k.1; least = p.0.least; most = p.0.most }, p.1),
     )
 
-pub place-part-spec : {M : Type 1} → statement M
-place-part-spec =
+pub place_part_spec : {M : Type 1} → statement M
+place_part_spec =
     tie.close
     (tie.spec
     before-operand-requires

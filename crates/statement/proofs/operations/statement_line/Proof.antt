@@ -5,33 +5,33 @@ use mathlib.Core.Bool.{true}
 use lib.ListN.{length, drop}
 use native.Mathlib.Omega.{arith}
 use borrow.Author.Rules.{rules}
-use Rattle.text.specs.Lines.{tokensFrom}
+use Rattle.text.specs.Lines.{tokens_from}
 use Rattle.text.specs.Scan.{line_at}
 use Rattle.constraint.specs.File.{File}
-use Rattle.constraint.specs.Read.{readStatement}
-use Rattle.store.specs.Tables.{variablesIn, lineIn, LinesKept}
-use Rattle.store.proofs.LineTableLaws.{kept_same, kept_on, kept-cleared, fit-cleared, line-cleared}
-use Rattle.statement.proofs.OperandLaws.{ReadUpTo, left-done, statement-full, statement-starts, first-most, fits-any}
-use Rattle.statement.specs.Internal.{leftToRead}
+use Rattle.constraint.specs.Read.{read_statement}
+use Rattle.store.specs.Tables.{variables_in, line_in, LinesKept}
+use Rattle.store.proofs.LineTableLaws.{kept_same, kept_on, kept_cleared, fit_cleared, line_cleared}
+use Rattle.statement.proofs.OperandLaws.{ReadUpTo, left_done, statement_full, statement_starts, first_most, fits_any}
+use Rattle.statement.specs.Internal.{left_to_read}
 use Rattle.statement.proofs.operations.statement_line.Statement.{statement}
 use Rattle.statement.proofs.operations.statement_line.Tie as tie
 
 abbrev invariant-loop : tie.invariant-loop
-invariant-loop file variables n line at heads₀ bodies₀ m p₀ slot₀ heads bodies p slot = ReadUpTo line (variablesIn file variables n) at m p₀ slot₀ heads₀ bodies₀ heads bodies p slot
+invariant-loop file variables n line at heads₀ bodies₀ m p₀ slot₀ heads bodies p slot = ReadUpTo line (variables_in file variables n) at m p₀ slot₀ heads₀ bodies₀ heads bodies p slot
 
 abbrev decreases-loop : tie.decreases-loop
 decreases-loop file variables n line at heads₀ bodies₀ m p₀ slot₀ heads bodies p slot = 4 - slot
 
 -- the line is cleared, and nothing of it is read, where the loop starts
-starts : (c : tie.At-loop invariant-loop decreases-loop) (f : File) (next : ℕ) → let s = c.before.before.before.before.before.before.before in let l = line_at s.args.line.now s.args.at next in length f.lines ≡ s.args.m → leftToRead f l c.before.first_slot.result 3 s.args.at (lineIn c.before.before.clear-operands.new.0 s.args.bodies.now s.args.m) (tokensFrom true (s.args.at + 1) (drop (s.args.at + 1) s.args.line.now)) ≡ readStatement s.args.form f l
+starts : (c : tie.At-loop invariant-loop decreases-loop) (f : File) (next : ℕ) → let s = c.before.before.before.before.before.before.before in let l = line_at s.args.line.now s.args.at next in length f.lines ≡ s.args.m → left_to_read f l c.before.first_slot.result 3 s.args.at (line_in c.before.before.clear-operands.new.0 s.args.bodies.now s.args.m) (tokens_from true (s.args.at + 1) (drop (s.args.at + 1) s.args.line.now)) ≡ read_statement s.args.form f l
 starts c f next q =
     let e = c.before.before.clear-operands.ensures.1 in
     let room = c.before.before.before.before.if1.false in
     let s = c.before.before.before.before.before.before.before in
-    rw c.before.first_slot.ensures (statement-starts s.args.form f s.args.line.now s.args.at next s.args.m 3 s.args.at _ q room (rw (e, line-cleared s.args.heads.now s.args.bodies.now s.args.m s.requires.3 room)))
+    rw c.before.first_slot.ensures (statement_starts s.args.form f s.args.line.now s.args.at next s.args.m 3 s.args.at _ q room (rw (e, line_cleared s.args.heads.now s.args.bodies.now s.args.m s.requires.3 room)))
 
 cleared-kept : (c : tie.At-loop invariant-loop decreases-loop) → let s = c.before.before.before.before.before.before.before in LinesKept s.args.heads.now s.args.bodies.now c.before.before.clear-operands.new.0 s.args.bodies.now s.args.m
-cleared-kept c = let s = c.before.before.before.before.before.before.before in rw c.before.before.clear-operands.ensures.1 (kept-cleared s.args.heads.now s.args.bodies.now s.args.m)
+cleared-kept c = let s = c.before.before.before.before.before.before.before in rw c.before.before.clear-operands.ensures.1 (kept_cleared s.args.heads.now s.args.bodies.now s.args.m)
 
 refusal-requires : tie.Need-refusal-requires invariant-loop decreases-loop
 refusal-requires c κs = search rules
@@ -39,7 +39,7 @@ refusal-requires c κs = search rules
 returns : tie.Need-returns invariant-loop decreases-loop
 returns c =
     let s = c.before.before.before.before in
-    (λ f next v q. rw c.refusal.ensures (statement-full s.args.form f s.args.line.now s.args.at next _ q c.before.if1.true), kept_same _ _ _, tt, s.requires.3, s.requires.4)
+    (λ f next v q. rw c.refusal.ensures (statement_full s.args.form f s.args.line.now s.args.at next _ q c.before.if1.true), kept_same _ _ _, tt, s.requires.3, s.requires.4)
 
 clear-operands-requires : tie.Need-clear-operands-requires invariant-loop decreases-loop
 clear-operands-requires c κs = search rules
@@ -59,13 +59,13 @@ loop-holds c =
     let m = s.args.m in
     let room = c.before.before.before.if1.false in
     record {
-      in-line = record { at = omega arith; least = omega arith; most = omega arith };
-      in-slots = omega (arith, c.first_slot.ensures, first-most s.args.form);
-      sized-heads = e.0;
-      sized-bodies = s.requires.4;
+      in_line = record { at = omega arith; least = omega arith; most = omega arith };
+      in_slots = omega (arith, c.first_slot.ensures, first_most s.args.form);
+      sized_heads = e.0;
+      sized_bodies = s.requires.4;
       kept = kept_same _ _ _;
-      fits = rw e.1 (fit-cleared heads bodies m s.requires.3 room _);
-      blank = λ h. rw (e.1, line-cleared heads bodies m s.requires.3 room);
+      fits = rw e.1 (fit_cleared heads bodies m s.requires.3 room _);
+      blank = λ h. rw (e.1, line_cleared heads bodies m s.requires.3 room);
       left = λ f next v. refl;
     }
 
@@ -73,7 +73,7 @@ place-part-requires : tie.Need-place-part-requires invariant-loop decreases-loop
 place-part-requires c κs =
     let l = c.before.before.before.before in
     let s = l.before.before.before.before.before.before.before in
-    (s.requires.1, s.requires.2, l.loop.invariant.in-line, c.before.before.if2.true, l.loop.invariant.sized-heads, l.loop.invariant.sized-bodies, l.before.before.before.before.if1.false)
+    (s.requires.1, s.requires.2, l.loop.invariant.in_line, c.before.before.if2.true, l.loop.invariant.sized_heads, l.loop.invariant.sized_bodies, l.before.before.before.before.if1.false)
 
 enum-known-r : tie.Need-enum-known-r invariant-loop decreases-loop
 enum-known-r c = search rules
@@ -90,10 +90,10 @@ enum-known-q : tie.Need-enum-known-q invariant-loop decreases-loop
 enum-known-q c = search rules
 
 add-slot : tie.Need-overflow-add-slot invariant-loop decreases-loop
-add-slot c = let i = c.before.before.before.before.before.before.before.before.loop.invariant.in-line.most in omega arith
+add-slot c = let i = c.before.before.before.before.before.before.before.before.loop.invariant.in_line.most in omega arith
 
 loop-less : tie.Need-loop-smaller invariant-loop decreases-loop
-loop-less c = let i = c.before.before.before.before.before.before.before.before.loop.invariant.in-line.most in omega arith
+loop-less c = let i = c.before.before.before.before.before.before.before.before.loop.invariant.in_line.most in omega arith
 
 loop-again : tie.Need-loop-preserved invariant-loop decreases-loop
 loop-again c =
@@ -103,10 +103,10 @@ loop-again c =
     let s = l.before.before.before.before.before.before.before in
     let p = rw c.before.q.given.1 at r.6 in
     record {
-      in-line = p.0;
-      in-slots = omega (arith, p.1);
-      sized-heads = r.4;
-      sized-bodies = r.5;
+      in_line = p.0;
+      in_slots = omega (arith, p.1);
+      sized_heads = r.4;
+      sized_bodies = r.5;
       kept = kept_on i.kept r.1;
       fits = r.2 i.fits;
       blank = r.3 i.blank;
@@ -117,7 +117,7 @@ finish-requires : tie.Need-finish-requires invariant-loop decreases-loop
 finish-requires c κs =
     let l = c.before.before.before.before in
     let i = l.loop.invariant in
-    (i.in-line.at, i.sized-heads, i.sized-bodies, l.before.before.before.before.if1.false)
+    (i.in_line.at, i.sized_heads, i.sized_bodies, l.before.before.before.before.if1.false)
 
 returns-3 : tie.Need-returns-3 invariant-loop decreases-loop
 returns-3 c =
@@ -126,13 +126,13 @@ returns-3 c =
     let p = l.loop.p in
     let s = l.before.before.before.before.before.before.before in
     let out = c.before.before.before.if2.false in
-    let a = i.in-line.least in
-    let b = i.in-slots in
+    let a = i.in_line.least in
+    let b = i.in_slots in
     let e : l.loop.slot ≡ p.last + 1 = omega arith in
-    (λ f next v q. c.finish.ensures _ i.fits ∙ left-done f _ p.last p.operator _ _ l.loop.slot (omega arith) e _ v ∙ i.left f next v ∙ starts l f next q, kept_on (cleared-kept l) i.kept, fits-any _ _ _ _ c.finish.result l.before.before.before.before.if1.false i.fits, i.sized-heads, i.sized-bodies)
+    (λ f next v q. c.finish.ensures _ i.fits ∙ left_done f _ p.last p.operator _ _ l.loop.slot (omega arith) e _ v ∙ i.left f next v ∙ starts l f next q, kept_on (cleared-kept l) i.kept, fits_any _ _ _ _ c.finish.result l.before.before.before.before.if1.false i.fits, i.sized_heads, i.sized_bodies)
 
-pub statement-line-spec : {M : Type 1} → statement M
-statement-line-spec =
+pub statement_line_spec : {M : Type 1} → statement M
+statement_line_spec =
     tie.close
     (tie.spec
     invariant-loop

@@ -1,5 +1,5 @@
-use Rattle.statement.proofs.TypingLaws.{constant-is}
-use Rattle.constraint.specs.TypeRules.{constantRule}
+use Rattle.statement.proofs.TypingLaws.{constant_is}
+use Rattle.constraint.specs.TypeRules.{constant_rule}
 use borrow.Author.Rules.{rules}
 use Rattle.statement.proofs.typing.constants_hold.Statement.{statement}
 use Rattle.statement.proofs.typing.constants_hold.Tie as tie
@@ -47,57 +47,57 @@ enum-told-12 : tie.Need-enum-told-12
 enum-told-12 c = search rules
 
 returns : tie.Need-returns
-unfolding constantRule
+unfolding constant_rule
 returns c =
     let s = c.before.before.before.before in
-    λ x y. rw (c.before.before.enum_told.given.1, c.is-constant2.ensures, c.before.is-constant.ensures, constant-is s.args.b x, constant-is s.args.c y)
+    λ x y. rw (c.before.before.enum_told.given.1, c.is-constant2.ensures, c.before.is-constant.ensures, constant_is s.args.b x, constant_is s.args.c y)
 
 returns-2 : tie.Need-returns-2
-unfolding constantRule
+unfolding constant_rule
 returns-2 c = λ x y. rw c.enum-told2.given.1
 
 returns-3 : tie.Need-returns-3
-unfolding constantRule
+unfolding constant_rule
 returns-3 c = λ x y. rw c.enum-told3.given.1
 
 returns-4 : tie.Need-returns-4
-unfolding constantRule
+unfolding constant_rule
 returns-4 c = λ x y. rw c.enum-told4.given.1
 
 returns-5 : tie.Need-returns-5
-unfolding constantRule
+unfolding constant_rule
 returns-5 c = λ x y. rw c.enum-told5.given.1
 
 returns-6 : tie.Need-returns-6
-unfolding constantRule
+unfolding constant_rule
 returns-6 c = λ x y. rw c.enum-told6.given.1
 
 returns-7 : tie.Need-returns-7
-unfolding constantRule
+unfolding constant_rule
 returns-7 c = λ x y. rw c.enum-told7.given.1
 
 returns-8 : tie.Need-returns-8
-unfolding constantRule
+unfolding constant_rule
 returns-8 c = λ x y. rw c.enum-told8.given.1
 
 returns-9 : tie.Need-returns-9
-unfolding constantRule
+unfolding constant_rule
 returns-9 c = λ x y. rw c.enum-told9.given.1
 
 returns-10 : tie.Need-returns-10
-unfolding constantRule
+unfolding constant_rule
 returns-10 c = λ x y. rw c.enum-told10.given.1
 
 returns-11 : tie.Need-returns-11
-unfolding constantRule
+unfolding constant_rule
 returns-11 c = λ x y. rw c.enum-told11.given.1
 
 returns-12 : tie.Need-returns-12
-unfolding constantRule
+unfolding constant_rule
 returns-12 c = λ x y. rw c.enum-told12.given.1
 
-pub constants-hold-spec : {M : Type 1} → statement M
-constants-hold-spec =
+pub constants_hold_spec : {M : Type 1} → statement M
+constants_hold_spec =
     tie.close
     (tie.spec
     enum_told

@@ -1,7 +1,7 @@
 use mathlib.Core.Path.{sym}
 use Rattle.arithmetic.specs.Rules.{i1, is}
-use Rattle.arithmetic.proofs.RuleLaws.{combine-tests, not-tests, ite-tests}
-use Rattle.constraint.specs.TypeRules.{isPredicate}
+use Rattle.arithmetic.proofs.RuleLaws.{combine_tests, not_tests, ite_tests}
+use Rattle.constraint.specs.TypeRules.{is_predicate}
 use borrow.Author.Rules.{rules}
 use Rattle.statement.proofs.typing.is_predicate.Statement.{statement}
 use Rattle.statement.proofs.typing.is_predicate.Tie as tie
@@ -43,61 +43,61 @@ enum-told-12 : tie.Need-enum-told-12
 enum-told-12 c = search rules
 
 returns : tie.Need-returns
-unfolding isPredicate
+unfolding is_predicate
 returns c =
     let s = c.before.before.before.before.before.args in
-    rw c.enum_told.given.1 (sym (combine-tests (is i1) s.a s.b s.c _))
+    rw c.enum_told.given.1 (sym (combine_tests (is i1) s.a s.b s.c _))
 
 returns-2 : tie.Need-returns-2
-unfolding isPredicate
+unfolding is_predicate
 returns-2 c =
     let s = c.before.before.before.before.before.args in
-    rw c.enum-told2.given.1 (sym (not-tests (is i1) s.a s.b s.c))
+    rw c.enum-told2.given.1 (sym (not_tests (is i1) s.a s.b s.c))
 
 returns-3 : tie.Need-returns-3
-unfolding isPredicate
+unfolding is_predicate
 returns-3 c = rw c.enum-told3.given.1
 
 returns-4 : tie.Need-returns-4
-unfolding isPredicate
+unfolding is_predicate
 returns-4 c = rw c.enum-told4.given.1
 
 returns-5 : tie.Need-returns-5
-unfolding isPredicate
+unfolding is_predicate
 returns-5 c =
     let s = c.before.before.before.before.before.args in
-    rw c.enum-told5.given.1 (sym (ite-tests (is i1) s.a s.b s.c))
+    rw c.enum-told5.given.1 (sym (ite_tests (is i1) s.a s.b s.c))
 
 returns-6 : tie.Need-returns-6
-unfolding isPredicate
+unfolding is_predicate
 returns-6 c = rw c.enum-told6.given.1
 
 returns-7 : tie.Need-returns-7
-unfolding isPredicate
+unfolding is_predicate
 returns-7 c = rw c.enum-told7.given.1
 
 returns-8 : tie.Need-returns-8
-unfolding isPredicate
+unfolding is_predicate
 returns-8 c = rw c.enum-told8.given.1
 
 returns-9 : tie.Need-returns-9
-unfolding isPredicate
+unfolding is_predicate
 returns-9 c = rw c.enum-told9.given.1
 
 returns-10 : tie.Need-returns-10
-unfolding isPredicate
+unfolding is_predicate
 returns-10 c = rw c.enum-told10.given.1
 
 returns-11 : tie.Need-returns-11
-unfolding isPredicate
+unfolding is_predicate
 returns-11 c = rw c.enum-told11.given.1
 
 returns-12 : tie.Need-returns-12
-unfolding isPredicate
+unfolding is_predicate
 returns-12 c = rw c.enum-told12.given.1
 
-pub is-predicate-spec : {M : Type 1} → statement M
-is-predicate-spec =
+pub is_predicate_spec : {M : Type 1} → statement M
+is_predicate_spec =
     tie.close
     (tie.spec
     enum_told

@@ -1,5 +1,5 @@
 use mathlib.Core.Path.{sym, ◌∙◌}
-use Rattle.statement.proofs.TypingLaws.{rule-constant, rule-other}
+use Rattle.statement.proofs.TypingLaws.{rule_constant, rule_other}
 use borrow.Author.Rules.{rules}
 use Rattle.statement.proofs.typing.rule_word.Statement.{statement}
 use Rattle.statement.proofs.typing.rule_word.Tie as tie
@@ -11,10 +11,10 @@ is-constant-requires : tie.Need-is-constant-requires
 is-constant-requires c κs = search rules
 
 returns : tie.Need-returns
-returns c = λ xs fits. let s = c.before.before.before in rw c.before.before.head-width.ensures (rule-constant xs s.args.head s.args.body fits (sym c.before.is-constant.ensures ∙ c.if1.true))
+returns c = λ xs fits. let s = c.before.before.before in rw c.before.before.head-width.ensures (rule_constant xs s.args.head s.args.body fits (sym c.before.is-constant.ensures ∙ c.if1.true))
 
 returns-2 : tie.Need-returns-2
-returns-2 c = λ xs fits. let s = c.before.before.before in rw c.before.before.head-width.ensures (rule-other xs s.args.head s.args.body fits (sym c.before.is-constant.ensures ∙ c.if1.false))
+returns-2 c = λ xs fits. let s = c.before.before.before in rw c.before.before.head-width.ensures (rule_other xs s.args.head s.args.body fits (sym c.before.is-constant.ensures ∙ c.if1.false))
 
-pub rule-word-spec : {M : Type 1} → statement M
-rule-word-spec = tie.close (tie.spec head-width-requires is-constant-requires returns returns-2)
+pub rule_word_spec : {M : Type 1} → statement M
+rule_word_spec = tie.close (tie.spec head-width-requires is-constant-requires returns returns-2)

@@ -1,7 +1,7 @@
 -- `well_typed` meets its contract: the parts are those of the line in the table.
 use native.Mathlib.Omega.{arith}
-use Rattle.constraint.specs.TypeRules.{wellTyped}
-use Rattle.store.specs.Tables.{body_at, operandIn, lineIn}
+use Rattle.constraint.specs.TypeRules.{well_typed}
+use Rattle.store.specs.Tables.{body_at, operand_in, line_in}
 use borrow.Author.Rules.{rules}
 use Rattle.statement.proofs.typing.well_typed.Statement.{statement}
 use Rattle.statement.proofs.typing.well_typed.Tie as tie
@@ -52,7 +52,7 @@ predicate-holds-requires : tie.Need-predicate-holds-requires
 predicate-holds-requires c κs = search rules
 
 returns : tie.Need-returns
-unfolding wellTyped lineIn operandIn
+unfolding well_typed line_in operand_in
 returns c =
     let w = c.before.before.before in
     let third = w.before in
@@ -66,11 +66,11 @@ returns c =
     let none = body_at a.bodies.now a.m 0 in
     λ xs f.
     rw (c.predicate-holds.ensures none, c.before.constants-hold.ensures second.before.body-of2.result third.before.body-of3.result, c.before.before.type-inv.ensures)
-    (rw (w.result-width.ensures xs none (rw o.head_of.ensures (f 0 (omega arith))), third.rule-word3.ensures xs (rw (z.head-of4.ensures, third.before.body-of3.ensures) (f 3 (omega arith))), second.rule-word2.ensures xs (rw (y.head-of3.ensures, second.before.body-of2.ensures) (f 2 (omega arith))), first.rule-word.ensures xs (rw (x.head-of2.ensures, first.before.body_of.ensures) (f 1 (omega arith))))
+    (rw (w.result_width_lem.ensures xs none (rw o.head_of.ensures (f 0 (omega arith))), third.rule-word3.ensures xs (rw (z.head-of4.ensures, third.before.body-of3.ensures) (f 3 (omega arith))), second.rule-word2.ensures xs (rw (y.head-of3.ensures, second.before.body-of2.ensures) (f 2 (omega arith))), first.rule-word.ensures xs (rw (x.head-of2.ensures, first.before.body_of.ensures) (f 1 (omega arith))))
     (rw (o.before.operator-of.ensures, o.head_of.ensures, x.head-of2.ensures, y.head-of3.ensures, z.head-of4.ensures, first.before.body_of.ensures, second.before.body-of2.ensures, third.before.body-of3.ensures)))
 
-pub well-typed-spec : {M : Type 1} → statement M
-well-typed-spec =
+pub well_typed_spec : {M : Type 1} → statement M
+well_typed_spec =
     tie.close
     (tie.spec
     operator-of-requires

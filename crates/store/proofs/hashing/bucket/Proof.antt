@@ -1,5 +1,5 @@
 use native.Mathlib.Omega.{arith}
-use Rattle.store.specs.Hash.{bucketOf}
+use Rattle.store.specs.Hash.{bucket_of}
 use borrow.Author.Rules.{rules}
 use Rattle.store.proofs.hashing.bucket.Statement.{statement}
 use Rattle.store.proofs.hashing.bucket.Tie as tie
@@ -8,8 +8,8 @@ add-result : tie.Need-overflow-add-result
 add-result c = search rules
 
 returns : tie.Need-returns
-unfolding bucketOf
+unfolding bucket_of
 returns c = (search rules, omega arith)
 
-pub bucket-spec : {M : Type 1} → statement M
-bucket-spec = tie.close (tie.spec add-result returns)
+pub bucket_spec : {M : Type 1} → statement M
+bucket_spec = tie.close (tie.spec add-result returns)

@@ -1,4 +1,4 @@
-use Rattle.store.specs.Hash.{hashNext}
+use Rattle.store.specs.Hash.{hash_next}
 use borrow.Author.Rules.{rules}
 use Rattle.store.proofs.hashing.hash_next.Statement.{statement}
 use Rattle.store.proofs.hashing.hash_next.Tie as tie
@@ -13,8 +13,8 @@ cast-result : tie.Need-overflow-cast-result
 cast-result c = search rules
 
 returns : tie.Need-returns
-unfolding hashNext
+unfolding hash_next
 returns c = search rules
 
-pub hash-next-spec : {M : Type 1} → statement M
-hash-next-spec = tie.close (tie.spec mul-result add-result cast-result returns)
+pub hash_next_spec : {M : Type 1} → statement M
+hash_next_spec = tie.close (tie.spec mul-result add-result cast-result returns)

@@ -5,18 +5,18 @@ use mathlib.Core.Path.{◌≡◌, sym, ◌∙◌}
 use native.Mathlib.Omega.{arith}
 use lib.ListN.{length, get_or, drop}
 use borrow.Author.Rules.{rules}
-use Rattle.text.specs.Bytes.{frontOf}
+use Rattle.text.specs.Bytes.{front_of}
 use Rattle.text.specs.declared.Class.TheVariants.{NameByte}
 use Rattle.text.specs.Scan.{is_of, past}
 use Rattle.text.proofs.RunLaws.{past_more, past_stop, past_end}
-use Rattle.text.proofs.FirstByteLaws.{letter-named}
-use Rattle.store.specs.Hash.{hashAfter, hashOf}
-use Rattle.store.proofs.HashLaws.{hash-begin, hash-more, hash-stop, hash-end, hash-name}
+use Rattle.text.proofs.FirstByteLaws.{letter_named}
+use Rattle.store.specs.Hash.{hash_after, hash_of}
+use Rattle.store.proofs.HashLaws.{hash_begin, hash_more, hash_stop, hash_end, hash_name}
 use Rattle.store.proofs.hashing.name_at.Statement.{statement}
 use Rattle.store.proofs.hashing.name_at.Tie as tie
 
 abbrev invariant-loop : tie.invariant-loop
-invariant-loop text at hash₀ i₀ hash i = (i ≤ length text) × (past (is_of NameByte) text i ≡ past (is_of NameByte) text at) × (hashAfter hash (frontOf (is_of NameByte) (drop i text)) ≡ hashOf (frontOf (is_of NameByte) (drop at text)))
+invariant-loop text at hash₀ i₀ hash i = (i ≤ length text) × (past (is_of NameByte) text i ≡ past (is_of NameByte) text at) × (hash_after hash (front_of (is_of NameByte) (drop i text)) ≡ hash_of (front_of (is_of NameByte) (drop at text)))
 
 abbrev decreases-loop : tie.decreases-loop
 decreases-loop text at hash₀ i₀ hash i = length text - i
@@ -33,8 +33,8 @@ add-i c = search rules
 loop-holds : tie.Need-loop-init invariant-loop decreases-loop
 loop-holds c = let s = c.before.before.before in
     let f = s.args.text.now in
-    let e = letter-named (get_or f s.args.at 0) s.requires.1 in
-    (omega arith, past_more (is_of NameByte) f s.args.at s.requires.0 e, rw c.hash-next.ensures (hash-more (is_of NameByte) f 0 s.args.at s.requires.0 e ∙ hash-begin (is_of NameByte) f s.args.at))
+    let e = letter_named (get_or f s.args.at 0) s.requires.1 in
+    (omega arith, past_more (is_of NameByte) f s.args.at s.requires.0 e, rw c.hash-next.ensures (hash_more (is_of NameByte) f 0 s.args.at s.requires.0 e ∙ hash_begin (is_of NameByte) f s.args.at))
 
 shared-slice-read-b : tie.Need-shared-slice-read-b invariant-loop decreases-loop
 shared-slice-read-b c = search rules
@@ -57,7 +57,7 @@ loop-again c = let l = c.before.before.before.before.before in
     let h = c.before.before.before.before.loop-test.true in
     let f = c.before.before.before.before.before.before.before.before.before.args.text.now in
     let e = sym c.before.before.is-name-byte.ensures ∙ c.before.if1.true in
-    (omega arith, past_more (is_of NameByte) f l.loop.i h e ∙ l.loop.invariant.1, rw c.hash-next2.ensures (hash-more (is_of NameByte) f l.loop.hash l.loop.i h e ∙ l.loop.invariant.2))
+    (omega arith, past_more (is_of NameByte) f l.loop.i h e ∙ l.loop.invariant.1, rw c.hash-next2.ensures (hash_more (is_of NameByte) f l.loop.hash l.loop.i h e ∙ l.loop.invariant.2))
 
 returns : tie.Need-returns invariant-loop decreases-loop
 unfolding is_of
@@ -67,17 +67,17 @@ returns c = let l = c.before.before.before.before in
     let f = s.args.text.now in
     let e = sym c.before.is-name-byte.ensures ∙ c.if1.false in
     let stop = sym (past_stop (is_of NameByte) f l.loop.i h e) ∙ l.loop.invariant.1 in
-    (stop, sym (hash-stop (is_of NameByte) f l.loop.hash l.loop.i h e) ∙ l.loop.invariant.2 ∙ hash-name (is_of NameByte) f s.args.at l.loop.i (omega arith) stop)
+    (stop, sym (hash_stop (is_of NameByte) f l.loop.hash l.loop.i h e) ∙ l.loop.invariant.2 ∙ hash_name (is_of NameByte) f s.args.at l.loop.i (omega arith) stop)
 
 returns-2 : tie.Need-returns-2 invariant-loop decreases-loop
 returns-2 c = let l = c.before in
     let s = c.before.before.before.before.before in
     let f = s.args.text.now in
     let stop = sym (past_end (is_of NameByte) f l.loop.i c.loop-test.false) ∙ l.loop.invariant.1 in
-    (stop, sym (hash-end (is_of NameByte) f l.loop.hash l.loop.i c.loop-test.false) ∙ l.loop.invariant.2 ∙ hash-name (is_of NameByte) f s.args.at l.loop.i (omega arith) stop)
+    (stop, sym (hash_end (is_of NameByte) f l.loop.hash l.loop.i c.loop-test.false) ∙ l.loop.invariant.2 ∙ hash_name (is_of NameByte) f s.args.at l.loop.i (omega arith) stop)
 
-pub name-at-spec : {M : Type 1} → statement M
-name-at-spec =
+pub name_at_spec : {M : Type 1} → statement M
+name_at_spec =
     tie.close
     (tie.spec
     invariant-loop

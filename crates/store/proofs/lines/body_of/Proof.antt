@@ -19,5 +19,5 @@ returns : tie.Need-returns
 unfolding body_at
 returns c = search rules
 
-pub body-of-spec : {M : Type 1} → statement M
-body-of-spec = tie.close (tie.spec mul-i add-i mul-result element-copy-out-result returns)
+pub body_of_spec : {M : Type 1} → statement M
+body_of_spec = tie.close (tie.spec mul-i add-i mul-result element-copy-out-result returns)

@@ -1,4 +1,4 @@
-use Rattle.store.specs.Tables.{withoutOperands}
+use Rattle.store.specs.Tables.{without_operands}
 use borrow.Author.Rules.{rules}
 use Rattle.store.proofs.lines.clear_operands.Statement.{statement}
 use Rattle.store.proofs.lines.clear_operands.Tie as tie
@@ -16,11 +16,11 @@ put-head-requires-4 : tie.Need-put-head-requires-4
 put-head-requires-4 c κs = search rules
 
 returns : tie.Need-returns
-unfolding withoutOperands
+unfolding without_operands
 returns c = (c.put-head4.ensures.0, rw (c.put-head4.ensures.1, c.before.before.put-head3.ensures.1, c.before.before.before.before.put-head2.ensures.1, c.before.before.before.before.before.before.put-head.ensures.1))
 
-pub clear-operands-spec : {M : Type 1} → statement M
-clear-operands-spec =
+pub clear_operands_spec : {M : Type 1} → statement M
+clear_operands_spec =
     tie.close
     (tie.spec
     put-head-requires

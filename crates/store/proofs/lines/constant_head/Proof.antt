@@ -1,4 +1,4 @@
-use Rattle.store.specs.Tables.{headWidth}
+use Rattle.store.specs.Tables.{head_width}
 use borrow.Author.Rules.{rules}
 use Rattle.store.proofs.lines.constant_head.Statement.{statement}
 use Rattle.store.proofs.lines.constant_head.Tie as tie
@@ -13,8 +13,8 @@ cast-result-2 : tie.Need-overflow-cast-result-2
 cast-result-2 c = search rules
 
 returns : tie.Need-returns
-unfolding headWidth
+unfolding head_width
 returns c = search rules
 
-pub constant-head-spec : {M : Type 1} → statement M
-constant-head-spec = tie.close (tie.spec cast-result rem-result cast-result-2 returns)
+pub constant_head_spec : {M : Type 1} → statement M
+constant_head_spec = tie.close (tie.spec cast-result rem-result cast-result-2 returns)

@@ -1,4 +1,4 @@
-use Rattle.store.specs.Tables.{headAt}
+use Rattle.store.specs.Tables.{head_at}
 use borrow.Author.Rules.{rules}
 use Rattle.store.proofs.lines.head_of.Statement.{statement}
 use Rattle.store.proofs.lines.head_of.Tie as tie
@@ -16,8 +16,8 @@ element-copy-out-result : tie.Need-element-copy-out-result
 element-copy-out-result c = search rules
 
 returns : tie.Need-returns
-unfolding headAt
+unfolding head_at
 returns c = search rules
 
-pub head-of-spec : {M : Type 1} → statement M
-head-of-spec = tie.close (tie.spec mul-i add-i add-i-2 element-copy-out-result returns)
+pub head_of_spec : {M : Type 1} → statement M
+head_of_spec = tie.close (tie.spec mul-i add-i add-i-2 element-copy-out-result returns)

@@ -1,4 +1,4 @@
-use Rattle.store.specs.Tables.{operatorIn}
+use Rattle.store.specs.Tables.{operator_in}
 use borrow.Author.Rules.{rules}
 use Rattle.store.proofs.lines.operator_of.Statement.{statement}
 use Rattle.store.proofs.lines.operator_of.Tie as tie
@@ -13,9 +13,9 @@ operator-by-requires : tie.Need-operator-by-requires
 operator-by-requires c κs = search rules
 
 returns : tie.Need-returns
-unfolding operatorIn
+unfolding operator_in
 returns c = c.operator-by.ensures
 
-pub operator-of-spec : {M : Type 1} → statement M
-operator-of-spec =
+pub operator_of_spec : {M : Type 1} → statement M
+operator_of_spec =
     tie.close (tie.spec mul-i element-copy-out-operator-by operator-by-requires returns)

@@ -1,4 +1,4 @@
-use Rattle.store.specs.Tables.{withBody}
+use Rattle.store.specs.Tables.{with_body}
 use borrow.Author.Rules.{rules}
 use Rattle.store.proofs.lines.put_body.Statement.{statement}
 use Rattle.store.proofs.lines.put_body.Tie as tie
@@ -16,8 +16,8 @@ element-write-bodies : tie.Need-element-write-bodies
 element-write-bodies c = search rules
 
 returns : tie.Need-returns
-unfolding withBody
+unfolding with_body
 returns c = search rules
 
-pub put-body-spec : {M : Type 1} → statement M
-put-body-spec = tie.close (tie.spec mul-i add-i mul-bodies element-write-bodies returns)
+pub put_body_spec : {M : Type 1} → statement M
+put_body_spec = tie.close (tie.spec mul-i add-i mul-bodies element-write-bodies returns)

@@ -19,5 +19,5 @@ returns : tie.Need-returns
 unfolding with_head
 returns c = search rules
 
-pub put-head-spec : {M : Type 1} → statement M
-put-head-spec = tie.close (tie.spec mul-i add-i add-i-2 element-write-heads returns)
+pub put_head_spec : {M : Type 1} → statement M
+put_head_spec = tie.close (tie.spec mul-i add-i add-i-2 element-write-heads returns)

@@ -1,5 +1,5 @@
 -- `add` meets its contract: two words are put in, in the order of the definition.
-use Rattle.store.specs.Names.{withName}
+use Rattle.store.specs.Names.{with_name}
 use borrow.Author.Rules.{rules}
 use Rattle.store.proofs.names.add.Statement.{statement}
 use Rattle.store.proofs.names.add.Tie as tie
@@ -50,7 +50,7 @@ element-write-variables-2 : tie.Need-element-write-variables-2
 element-write-variables-2 c = search rules
 
 returns : tie.Need-returns
-unfolding withName
+unfolding with_name
 returns c = rw (c.with-first-entry.ensures, c.before.before.with-word-of.ensures, c.before.before.before.before.first_entry.ensures.0, c.before.before.before.before.before.before.bucket.ensures.0)
 
 pub add_spec : {M : Type 1} → statement M

@@ -4,15 +4,15 @@ use Prim.Native.Nat.{◌-◌}
 use native.Mathlib.Omega.{arith}
 use lib.ListN.{drop}
 use borrow.Author.Rules.{rules}
-use Rattle.store.specs.Hash.{bucketOf}
-use Rattle.store.specs.Names.{bucketIn}
-use Rattle.store.proofs.ChainLaws.{Walk, walk_first, walk-less, walk-next}
-use Rattle.store.proofs.SearchLaws.{has, has_part, search-found, search-ended}
+use Rattle.store.specs.Hash.{bucket_of}
+use Rattle.store.specs.Names.{bucket_in}
+use Rattle.store.proofs.ChainLaws.{Walk, walk_first, walk_less, walk_next}
+use Rattle.store.proofs.SearchLaws.{has, has_part, search_found, search_ended}
 use Rattle.store.proofs.names.find.Statement.{statement}
 use Rattle.store.proofs.names.find.Tie as tie
 
 abbrev invariant-loop : tie.invariant-loop
-invariant-loop file variables n text at hash b entry₀ entry = Walk (bucketIn file variables) n (has file variables (drop at text)) (bucketOf hash) entry
+invariant-loop file variables n text at hash b entry₀ entry = Walk (bucket_in file variables) n (has file variables (drop at text)) (bucket_of hash) entry
 
 abbrev decreases-loop : tie.decreases-loop
 decreases-loop file variables n text at hash b entry₀ entry = entry
@@ -22,7 +22,7 @@ tested : (c : tie.After-same-at invariant-loop decreases-loop) → let l = c.bef
 tested c =
     let l = c.before.before.before.before.before in
     let a = l.before.before.before.before.before.before.args in
-    sym (rw (c.before.name-length.ensures, c.before.before.name-start.ensures) at c.same_at.ensures ∙ has_part a.file.now a.variables.now (drop a.at a.text.now) (l.loop.entry - 1))
+    sym (rw (c.before.name_length_lem.ensures, c.before.before.name-start.ensures) at c.same_at.ensures ∙ has_part a.file.now a.variables.now (drop a.at a.text.now) (l.loop.entry - 1))
 
 bucket-requires : tie.Need-bucket-requires invariant-loop decreases-loop
 bucket-requires c κs = search rules
@@ -59,12 +59,12 @@ name-length-requires c κs = search rules
 same-at-requires : tie.Need-same-at-requires invariant-loop decreases-loop
 same-at-requires c κs = let s = c.before.before.before.before.before.before.before.before.before.before in
     let l = c.before.before.before.before in
-    (rw (c.name-length.ensures, c.before.name-start.ensures) (s.requires.2.within (l.loop.entry - 1) (omega (arith, l.loop.invariant.bound))), s.requires.0)
+    (rw (c.name_length_lem.ensures, c.before.name-start.ensures) (s.requires.2.within (l.loop.entry - 1) (omega (arith, l.loop.invariant.bound))), s.requires.0)
 
 returns : tie.Need-returns invariant-loop decreases-loop
 returns c = let s = c.before.before.before.before.before.before.before.before.before.before.before.before in
     let l = c.before.before.before.before.before.before in
-    search-found _ _ _ s.requires.2 _ (l.loop.entry - 1) (omega (arith, l.loop.invariant.bound)) (tested c.before ∙ c.if1.true)
+    search_found _ _ _ s.requires.2 _ (l.loop.entry - 1) (omega (arith, l.loop.invariant.bound)) (tested c.before ∙ c.if1.true)
 
 next-entry-requires : tie.Need-next-entry-requires invariant-loop decreases-loop
 next-entry-requires c κs = search rules
@@ -72,18 +72,18 @@ next-entry-requires c κs = search rules
 loop-less : tie.Need-loop-smaller invariant-loop decreases-loop
 loop-less c = let s = c.before.before.before.before.before.before.before.before.before.before.before.before.before in
     let l = c.before.before.before.before.before.before.before in
-    rw c.next-entry.ensures (walk-less _ _ _ _ s.requires.2.chained (has s.args.file.now s.args.variables.now (drop s.args.at s.args.text.now)) _ l.loop.entry l.loop.invariant c.before.before.before.before.before.before.loop-test.true)
+    rw c.next-entry.ensures (walk_less _ _ _ _ s.requires.2.chained (has s.args.file.now s.args.variables.now (drop s.args.at s.args.text.now)) _ l.loop.entry l.loop.invariant c.before.before.before.before.before.before.loop-test.true)
 
 loop-again : tie.Need-loop-preserved invariant-loop decreases-loop
 loop-again c = let s = c.before.before.before.before.before.before.before.before.before.before.before.before.before in
     let l = c.before.before.before.before.before.before.before in
-    rw c.next-entry.ensures (walk-next _ _ _ _ s.requires.2.chained (has s.args.file.now s.args.variables.now (drop s.args.at s.args.text.now)) _ l.loop.entry l.loop.invariant c.before.before.before.before.before.before.loop-test.true (tested c.before.before ∙ c.before.if1.false))
+    rw c.next-entry.ensures (walk_next _ _ _ _ s.requires.2.chained (has s.args.file.now s.args.variables.now (drop s.args.at s.args.text.now)) _ l.loop.entry l.loop.invariant c.before.before.before.before.before.before.loop-test.true (tested c.before.before ∙ c.before.if1.false))
 
 returns-2 : tie.Need-returns-2 invariant-loop decreases-loop
 returns-2 c = let s = c.before.before.before.before.before.before.before in
     let l = c.before in
     let e : l.loop.entry ≡ 0 = omega arith in
-    search-ended _ _ _ s.requires.2 _ _ (rw (← s.requires.3)) (rw e at l.loop.invariant)
+    search_ended _ _ _ s.requires.2 _ _ (rw (← s.requires.3)) (rw e at l.loop.invariant)
 
 pub find_spec : {M : Type 1} → statement M
 find_spec =

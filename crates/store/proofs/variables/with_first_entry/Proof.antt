@@ -1,4 +1,4 @@
-use Rattle.store.specs.Tables.{withFirstEntry}
+use Rattle.store.specs.Tables.{with_first_entry}
 use borrow.Author.Rules.{rules}
 use Rattle.store.proofs.variables.with_first_entry.Statement.{statement}
 use Rattle.store.proofs.variables.with_first_entry.Tie as tie
@@ -10,8 +10,8 @@ add-result : tie.Need-overflow-add-result
 add-result c = search rules
 
 returns : tie.Need-returns
-unfolding withFirstEntry
+unfolding with_first_entry
 returns c = search rules
 
-pub with-first-entry-spec : {M : Type 1} → statement M
-with-first-entry-spec = tie.close (tie.spec mul-result add-result returns)
+pub with_first_entry_spec : {M : Type 1} → statement M
+with_first_entry_spec = tie.close (tie.spec mul-result add-result returns)

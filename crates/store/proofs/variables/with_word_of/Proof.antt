@@ -1,4 +1,4 @@
-use Rattle.store.specs.Tables.{withWordOf}
+use Rattle.store.specs.Tables.{with_word_of}
 use borrow.Author.Rules.{rules}
 use Rattle.store.proofs.variables.with_word_of.Statement.{statement}
 use Rattle.store.proofs.variables.with_word_of.Tie as tie
@@ -28,11 +28,11 @@ add-result-3 : tie.Need-overflow-add-result-3
 add-result-3 c = search rules
 
 returns : tie.Need-returns
-unfolding withWordOf
+unfolding with_word_of
 returns c = search rules
 
-pub with-word-of-spec : {M : Type 1} → statement M
-with-word-of-spec =
+pub with_word_of_spec : {M : Type 1} → statement M
+with_word_of_spec =
     tie.close
     (tie.spec
     mul-name

@@ -1,4 +1,4 @@
-use Rattle.store.specs.Tables.{wordWidth}
+use Rattle.store.specs.Tables.{word_width}
 use borrow.Author.Rules.{rules}
 use Rattle.store.proofs.variables.word_width.Statement.{statement}
 use Rattle.store.proofs.variables.word_width.Tie as tie
@@ -10,8 +10,8 @@ rem-result : tie.Need-nonzero-rem-result
 rem-result c = search rules
 
 returns : tie.Need-returns
-unfolding wordWidth
+unfolding word_width
 returns c = search rules
 
-pub word-width-spec : {M : Type 1} → statement M
-word-width-spec = tie.close (tie.spec cast-result rem-result returns)
+pub word_width_spec : {M : Type 1} → statement M
+word_width_spec = tie.close (tie.spec cast-result rem-result returns)

@@ -35,8 +35,8 @@ same-length-6 c = search rules
 returns-2 : tie.Need-returns-2
 returns-2 c = (rw c.before.r.given.1 at c.before.before.before.before.before.before.before.before.before.check-lines.ensures).0
 
-pub check-spec : {M : Type 1} → statement M
-check-spec =
+pub check_spec : {M : Type 1} → statement M
+check_spec =
     tie.close
     (tie.spec
     check-lines-requires

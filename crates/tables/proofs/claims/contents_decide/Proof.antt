@@ -1,9 +1,9 @@
-use Rattle.tables.proofs.SameContentsLaws.{contents-decide}
+use Rattle.tables.proofs.SameContentsLaws.{contents_decide}
 use Rattle.tables.proofs.claims.contents_decide.Statement.{statement}
 use Rattle.tables.proofs.claims.contents_decide.Tie as tie
 
 returns : tie.Need-returns
-returns c = contents-decide
+returns c = contents_decide
 
-pub contents-decide-spec : {M : Type 1} → statement M
-contents-decide-spec = tie.close (tie.spec returns)
+pub contents_decide_spec : {M : Type 1} → statement M
+contents_decide_spec = tie.close (tie.spec returns)

@@ -1,9 +1,9 @@
-use Rattle.tables.proofs.ExampleLaws.{not-all-satisfied}
+use Rattle.tables.proofs.ExampleLaws.{not_all_satisfied}
 use Rattle.tables.proofs.claims.not_all_satisfied.Statement.{statement}
 use Rattle.tables.proofs.claims.not_all_satisfied.Tie as tie
 
 returns : tie.Need-returns
-returns c = not-all-satisfied
+returns c = not_all_satisfied
 
-pub not-all-satisfied-spec : {M : Type 1} → statement M
-not-all-satisfied-spec = tie.close (tie.spec returns)
+pub not_all_satisfied_spec : {M : Type 1} → statement M
+not_all_satisfied_spec = tie.close (tie.spec returns)

@@ -1,9 +1,9 @@
-use Rattle.tables.proofs.SatisfiedLaws.{satisfied-exactly}
+use Rattle.tables.proofs.SatisfiedLaws.{satisfied_exactly}
 use Rattle.tables.proofs.claims.satisfied_exactly.Statement.{statement}
 use Rattle.tables.proofs.claims.satisfied_exactly.Tie as tie
 
 returns : tie.Need-returns
-returns c = satisfied-exactly
+returns c = satisfied_exactly
 
-pub satisfied-exactly-spec : {M : Type 1} → statement M
-satisfied-exactly-spec = tie.close (tie.spec returns)
+pub satisfied_exactly_spec : {M : Type 1} → statement M
+satisfied_exactly_spec = tie.close (tie.spec returns)

@@ -7,13 +7,13 @@ use lib.Dec.{eqb}
 use lib.ListN.{length, get_or, drop}
 use borrow.Author.Rules.{rules}
 use borrow.Author.Tests.{eq-eqb, ne_eqb}
-use Rattle.refusal.specs.Lists.{howMany}
-use Rattle.refusal.proofs.ManyLaws.{many-here, many-later, many-nowhere}
+use Rattle.refusal.specs.Lists.{how_many}
+use Rattle.refusal.proofs.ManyLaws.{many_here, many_later, many_nowhere}
 use Rattle.tables.proofs.reports.count.Statement.{statement}
 use Rattle.tables.proofs.reports.count.Tie as tie
 
 abbrev invariant-loop : tie.invariant-loop
-invariant-loop verdicts v n₀ i₀ n i = (i ≤ length verdicts) × (n ≤ i) × (n + howMany (eqb v) (drop i verdicts) ≡ howMany (eqb v) verdicts)
+invariant-loop verdicts v n₀ i₀ n i = (i ≤ length verdicts) × (n ≤ i) × (n + how_many (eqb v) (drop i verdicts) ≡ how_many (eqb v) verdicts)
 
 abbrev decreases-loop : tie.decreases-loop
 decreases-loop verdicts v n₀ i₀ n i = length verdicts - i
@@ -40,14 +40,14 @@ loop-again c =
     let v = s.before.before.args.v in
     let vs = s.before.before.args.verdicts.now in
     ⊎_elim
-    (λ w. let e = many-here (eqb v) vs i 0 s.loop-test.true (eq-eqb v (get_or vs i 0) w.0.taken) in (search rules, omega arith, omega arith))
-    (λ w. let e = many-later (eqb v) vs i 0 s.loop-test.true (ne_eqb v (get_or vs i 0) w.0.left) in (search rules, omega arith, omega arith))
+    (λ w. let e = many_here (eqb v) vs i 0 s.loop-test.true (eq-eqb v (get_or vs i 0) w.0.taken) in (search rules, omega arith, omega arith))
+    (λ w. let e = many_later (eqb v) vs i 0 s.loop-test.true (ne_eqb v (get_or vs i 0) w.0.left) in (search rules, omega arith, omega arith))
     c.if1.branch
 
 returns : tie.Need-returns invariant-loop decreases-loop
 returns c =
     let s = c.before in
-    let e = many-nowhere (eqb s.before.args.v) s.before.args.verdicts.now s.loop.i c.loop-test.false in
+    let e = many_nowhere (eqb s.before.args.v) s.before.args.verdicts.now s.loop.i c.loop-test.false in
     omega arith
 
 pub count_spec : {M : Type 1} → statement M

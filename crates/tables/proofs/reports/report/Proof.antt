@@ -4,17 +4,17 @@ use lib.ListN.{length, take}
 use lib.Seq.{length-take-le}
 use borrow.Author.Rules.{rules}
 use Rattle.tables.specs.declared.Report.TheVariants.{Tallied}
-use Rattle.tables.specs.Report.{tally_of, reportOutcome}
-use Rattle.tables.proofs.ReportLaws.{report-tallied, report-refused}
+use Rattle.tables.specs.Report.{tally_of, report_outcome}
+use Rattle.tables.proofs.ReportLaws.{report_tallied, report_refused}
 use Rattle.tables.proofs.reports.report.Statement.{statement}
 use Rattle.tables.proofs.reports.report.Tie as tie
 
 -- the verdicts after an accepted check
-tallied : (c : tie.After-o) → let o = c.o.given.0 in let k = c.before.before.before.before.before.check-lines in let a = c.before.before.before.before.before.before.before.before.before.before.before.args in (o.1.0 ≤ length k.new.1.1.1.0) × (Tallied o.0 (tally_of (take o.1.0 k.new.1.1.1.0)) ≡ reportOutcome a.constraint.now a.answer.now)
+tallied : (c : tie.After-o) → let o = c.o.given.0 in let k = c.before.before.before.before.before.check-lines in let a = c.before.before.before.before.before.before.before.before.before.before.before.args in (o.1.0 ≤ length k.new.1.1.1.0) × (Tallied o.0 (tally_of (take o.1.0 k.new.1.1.1.0)) ≡ report_outcome a.constraint.now a.answer.now)
 tallied c =
     let a = c.before.before.before.before.before.before.before.before.before.before.before.args in
     let e = rw c.o.given.1 at c.before.before.before.before.before.check-lines.ensures in
-    report-tallied a.constraint.now a.answer.now _ _ _ c.o.given.0.0 c.o.given.0.1.0 e.0 e.1
+    report_tallied a.constraint.now a.answer.now _ _ _ c.o.given.0.0 c.o.given.0.1.0 e.0 e.1
 
 slice-aggregate-check-lines : tie.Need-slice-aggregate-check-lines
 slice-aggregate-check-lines c = search rules
@@ -49,10 +49,10 @@ returns c = rw c.tally.ensures (tallied c.before.before.before).1
 returns-2 : tie.Need-returns-2
 returns-2 c =
     let s = c.before.before.before.before.before.before.before.before.before.before.before.before in
-    report-refused s.args.constraint.now s.args.answer.now _ _ _ c.before.r.given.0.0 (rw c.before.r.given.1 at c.before.before.before.before.before.before.check-lines.ensures).0
+    report_refused s.args.constraint.now s.args.answer.now _ _ _ c.before.r.given.0.0 (rw c.before.r.given.1 at c.before.before.before.before.before.before.check-lines.ensures).0
 
-pub report-spec : {M : Type 1} → statement M
-report-spec =
+pub report_spec : {M : Type 1} → statement M
+report_spec =
     tie.close
     (tie.spec
     slice-aggregate-check-lines

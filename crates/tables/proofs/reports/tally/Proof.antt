@@ -14,5 +14,5 @@ count-requires-3 c κs = search rules
 returns : tie.Need-returns
 returns c = rw (c.before.before.count.ensures, c.before.count2.ensures, c.count3.ensures)
 
-pub tally-spec : {M : Type 1} → statement M
-tally-spec = tie.close (tie.spec count-requires count-requires-2 count-requires-3 returns)
+pub tally_spec : {M : Type 1} → statement M
+tally_spec = tie.close (tie.spec count-requires count-requires-2 count-requires-3 returns)

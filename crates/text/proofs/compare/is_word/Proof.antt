@@ -11,5 +11,5 @@ same-at-requires c κs = search rules
 returns : tie.Need-returns
 returns c = c.same_at.ensures ∙ rw take-length
 
-pub is-word-spec : {M : Type 1} → statement M
-is-word-spec = tie.close (tie.spec same-at-requires returns)
+pub is_word_spec : {M : Type 1} → statement M
+is_word_spec = tie.close (tie.spec same-at-requires returns)

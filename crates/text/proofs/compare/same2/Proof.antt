@@ -1,5 +1,5 @@
 -- `same2` meets its contract: the two tests, joined.
-use Rattle.text.proofs.CompareLaws.{at-two}
+use Rattle.text.proofs.CompareLaws.{at_two}
 use borrow.Author.Rules.{rules}
 use Rattle.text.proofs.compare.same2.Statement.{statement}
 use Rattle.text.proofs.compare.same2.Tie as tie
@@ -23,10 +23,10 @@ shared-slice-read-result-4 : tie.Need-shared-slice-read-result-4
 shared-slice-read-result-4 c = search rules
 
 returns : tie.Need-returns
-returns c = let s = c.before.before.before.before in at-two s.args.file.now s.args.text.now s.args.a s.args.b s.requires.0 s.requires.1
+returns c = let s = c.before.before.before.before in at_two s.args.file.now s.args.text.now s.args.a s.args.b s.requires.0 s.requires.1
 
-pub same2-spec : {M : Type 1} → statement M
-same2-spec =
+pub same2_spec : {M : Type 1} → statement M
+same2_spec =
     tie.close
     (tie.spec
     add-next

@@ -5,13 +5,13 @@ use native.Mathlib.Omega.{arith}
 use lib.ListN.{length, take, drop}
 use borrow.Author.Rules.{rules}
 use Rattle.text.specs.Bytes.{same}
-use Rattle.text.proofs.NameLaws.{sameFrom, same_first, same-short}
-use Rattle.text.proofs.CompareLaws.{block_same, block-other}
+use Rattle.text.proofs.NameLaws.{same_from, same_first, same_short}
+use Rattle.text.proofs.CompareLaws.{block_same, block_other}
 use Rattle.text.proofs.compare.same_at.Statement.{statement}
 use Rattle.text.proofs.compare.same_at.Tie as tie
 
 abbrev invariant-loop : tie.invariant-loop
-invariant-loop file start len text at i₀ i = (i ≤ len) × (at + len ≡ length text) × (sameFrom file text start len at i ≡ same (take len (drop start file)) (drop at text))
+invariant-loop file start len text at i₀ i = (i ≤ len) × (at + len ≡ length text) × (same_from file text start len at i ≡ same (take len (drop start file)) (drop at text))
 
 abbrev decreases-loop : tie.decreases-loop
 decreases-loop file start len text at i₀ i = len - i
@@ -20,7 +20,7 @@ sub-if1 : tie.Need-overflow-sub-if1 invariant-loop decreases-loop
 sub-if1 c = search rules
 
 returns : tie.Need-returns invariant-loop decreases-loop
-returns c = let a = c.before.before.before.args in sym (same-short a.file.now a.text.now a.start a.len a.at (omega arith) (λ e. let z : ⊥ = omega arith in z))
+returns c = let a = c.before.before.before.args in sym (same_short a.file.now a.text.now a.start a.len a.at (omega arith) (λ e. let z : ⊥ = omega arith in z))
 
 loop-holds : tie.Need-loop-init invariant-loop decreases-loop
 loop-holds c = (omega arith, omega arith, same_first _ _ _ _ _)
@@ -51,7 +51,7 @@ loop-again c = let l = c.before.before.before in
 returns-2 : tie.Need-returns-2 invariant-loop decreases-loop
 returns-2 c = let l = c.before.before.before in
     let s = c.before.before.before.before.before.before.before in
-    sym (block-other s.args.file.now s.args.text.now s.args.start s.args.len s.args.at s.requires.0 l.loop.invariant.1 8 l.loop.i (omega arith) (sym c.before.same8.ensures ∙ c.if2.false)) ∙ l.loop.invariant.2
+    sym (block_other s.args.file.now s.args.text.now s.args.start s.args.len s.args.at s.requires.0 l.loop.invariant.1 8 l.loop.i (omega arith) (sym c.before.same8.ensures ∙ c.if2.false)) ∙ l.loop.invariant.2
 
 add-same-rest : tie.Need-overflow-add-same-rest invariant-loop decreases-loop
 add-same-rest c = search rules
@@ -66,11 +66,11 @@ same-rest-requires : tie.Need-same-rest-requires invariant-loop decreases-loop
 same-rest-requires c κs = search rules
 
 returns-3 : tie.Need-returns-3 invariant-loop decreases-loop
-unfolding sameFrom
+unfolding same_from
 returns-3 c = rw c.same_rest.ensures c.before.before.loop.invariant.2
 
-pub same-at-spec : {M : Type 1} → statement M
-same-at-spec =
+pub same_at_spec : {M : Type 1} → statement M
+same_at_spec =
     tie.close
     (tie.spec
     invariant-loop

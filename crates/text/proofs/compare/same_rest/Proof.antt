@@ -5,13 +5,13 @@ use native.Mathlib.Omega.{arith}
 use lib.ListN.{take, drop}
 use borrow.Author.Rules.{rules}
 use Rattle.text.specs.Bytes.{same}
-use Rattle.text.proofs.NameLaws.{sameFrom, same_first, from-same, from-other, from_end}
+use Rattle.text.proofs.NameLaws.{same_from, same_first, from_same, from_other, from_end}
 use Rattle.text.proofs.compare.same_rest.Statement.{statement}
 use Rattle.text.proofs.compare.same_rest.Tie as tie
 
 abbrev invariant-loop : tie.invariant-loop
 invariant-loop file start len text at i₀ i =
-    (i ≤ len) × (sameFrom file text start len at i ≡ same (take len (drop start file)) (drop at text))
+    (i ≤ len) × (same_from file text start len at i ≡ same (take len (drop start file)) (drop at text))
 
 abbrev decreases-loop : tie.decreases-loop
 decreases-loop file start len text at i₀ i = len - i
@@ -35,7 +35,7 @@ returns : tie.Need-returns invariant-loop decreases-loop
 returns c =
     let l = c.before.before.before.before in
     let a = l.before.args in
-    sym (from-other a.file.now a.text.now a.start a.len a.at l.loop.i (omega arith) (omega arith) (omega arith) c.if1.true) ∙ l.loop.invariant.1
+    sym (from_other a.file.now a.text.now a.start a.len a.at l.loop.i (omega arith) (omega arith) (omega arith) c.if1.true) ∙ l.loop.invariant.1
 
 add-i : tie.Need-overflow-add-i invariant-loop decreases-loop
 add-i c = search rules
@@ -47,7 +47,7 @@ loop-again : tie.Need-loop-preserved invariant-loop decreases-loop
 loop-again c =
     let l = c.before.before.before.before in
     let a = l.before.args in
-    (omega arith, from-same a.file.now a.text.now a.start a.len a.at l.loop.i (omega arith) (omega arith) (omega arith) c.if1.false ∙ l.loop.invariant.1)
+    (omega arith, from_same a.file.now a.text.now a.start a.len a.at l.loop.i (omega arith) (omega arith) (omega arith) c.if1.false ∙ l.loop.invariant.1)
 
 returns-2 : tie.Need-returns-2 invariant-loop decreases-loop
 returns-2 c =
@@ -55,8 +55,8 @@ returns-2 c =
     let a = l.before.args in
     sym (from_end a.file.now a.text.now a.start a.len a.at l.loop.i (omega arith) (omega arith)) ∙ l.loop.invariant.1
 
-pub same-rest-spec : {M : Type 1} → statement M
-same-rest-spec =
+pub same_rest_spec : {M : Type 1} → statement M
+same_rest_spec =
     tie.close
     (tie.spec
     invariant-loop

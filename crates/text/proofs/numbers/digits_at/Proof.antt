@@ -7,21 +7,21 @@ use native.Mathlib.Omega.{arith}
 use lib.ListN.{length, get_or, drop}
 use borrow.Author.Rules.{rules}
 use borrow.Author.Tests.{not-true, not-false}
-use Rattle.text.specs.Bytes.{frontOf}
-use Rattle.text.specs.Spelling.{decimalFrom, decimal}
+use Rattle.text.specs.Bytes.{front_of}
+use Rattle.text.specs.Spelling.{decimal_from, decimal}
 use Rattle.text.specs.declared.Class.TheVariants.{Digit}
 use Rattle.text.specs.declared.Number.TheVariants.{TooBig}
 use Rattle.text.specs.Scan.{is_of, past, magnitude}
 use Rattle.text.proofs.RunLaws.{past_more, past_stop, past_end}
-use Rattle.text.proofs.NumberLaws.{digits_more, digits-stop, digits-end, digits-good, digits-big}
-use Rattle.text.proofs.SeenLaws.{digit-bounds}
+use Rattle.text.proofs.NumberLaws.{digits_more, digits_stop, digits_end, digits_good, digits_big}
+use Rattle.text.proofs.SeenLaws.{digit_bounds}
 use Rattle.text.proofs.numbers.digits_at.Statement.{statement}
 use Rattle.text.proofs.numbers.digits_at.Tie as tie
 
 record Reading (text : List ℕ) (at n i : ℕ) : Type 0 where
   within : i ≤ length text
   fits : n < 2 ^ 64
-  left : decimalFrom n (frontOf (is_of Digit) (drop i text)) ≡ decimal (frontOf (is_of Digit) (drop at text))
+  left : decimal_from n (front_of (is_of Digit) (drop i text)) ≡ decimal (front_of (is_of Digit) (drop at text))
   stop : past (is_of Digit) text i ≡ past (is_of Digit) text at
 
 abbrev invariant-loop : tie.invariant-loop
@@ -36,11 +36,11 @@ unfolding is_of
 digit c = sym c.before.is_digit.ensures ∙ not-false _ c.if1.false
 
 -- past 2 ^ 64 with it
-big : (c : tie.Else1 invariant-loop decreases-loop) → let l = c.before.before.before.before in let a = l.before.before.args in 2 ^ 64 ≤ l.loop.n * 10 + (get_or a.text.now l.loop.i 0 - 48) → TooBig ≡ magnitude (frontOf (is_of Digit) (drop a.at a.text.now))
+big : (c : tie.Else1 invariant-loop decreases-loop) → let l = c.before.before.before.before in let a = l.before.before.args in 2 ^ 64 ≤ l.loop.n * 10 + (get_or a.text.now l.loop.i 0 - 48) → TooBig ≡ magnitude (front_of (is_of Digit) (drop a.at a.text.now))
 big c h =
     let s = c.before.before.before in
     let l = s.before.loop in
-    digits-big _ _ h _ (sym (digits_more (is_of Digit) _ l.i l.n s.loop-test.true (digit c)) ∙ l.invariant.left)
+    digits_big _ _ h _ (sym (digits_more (is_of Digit) _ l.i l.n s.loop-test.true (digit c)) ∙ l.invariant.left)
 
 loop-holds : tie.Need-loop-init invariant-loop decreases-loop
 loop-holds c = record { within = omega arith; fits = omega arith; left = refl; stop = refl }
@@ -57,7 +57,7 @@ returns c =
     let s = c.before.before.before in
     let l = s.before.loop in
     let e = sym c.before.is_digit.ensures ∙ not-true _ c.if1.true in (
-      digits-good _ l.n l.invariant.fits (sym (digits-stop (is_of Digit) _ l.i l.n s.loop-test.true e) ∙ l.invariant.left),
+      digits_good _ l.n l.invariant.fits (sym (digits_stop (is_of Digit) _ l.i l.n s.loop-test.true e) ∙ l.invariant.left),
       sym (past_stop (is_of Digit) _ _ s.loop-test.true e) ∙ l.invariant.stop,
     )
 
@@ -66,11 +66,11 @@ shared-slice-read-d c = search rules
 
 sub-d : tie.Need-overflow-sub-d invariant-loop decreases-loop
 unfolding is_of
-sub-d c = let d = digit-bounds _ (digit c.before) in omega arith
+sub-d c = let d = digit_bounds _ (digit c.before) in omega arith
 
 cast-d : tie.Need-overflow-cast-d invariant-loop decreases-loop
 unfolding is_of
-cast-d c = let d = digit-bounds _ (digit c.before) in omega arith
+cast-d c = let d = digit_bounds _ (digit c.before) in omega arith
 
 too-big-requires : tie.Need-too-big-requires invariant-loop decreases-loop
 too-big-requires c κs = search rules
@@ -78,7 +78,7 @@ too-big-requires c κs = search rules
 returns-2 : tie.Need-returns-2 invariant-loop decreases-loop
 returns-2 c =
     let s = c.before.before.before in
-    (c.too-big.ensures.0 ∙ big s (omega arith), c.too-big.ensures.1 ∙ s.before.before.before.before.loop.invariant.stop)
+    (c.too_big.ensures.0 ∙ big s (omega arith), c.too_big.ensures.1 ∙ s.before.before.before.before.loop.invariant.stop)
 
 mul-m : tie.Need-overflow-mul-m invariant-loop decreases-loop
 mul-m c = search rules
@@ -113,10 +113,10 @@ loop-again c =
 returns-4 : tie.Need-returns-4 invariant-loop decreases-loop
 returns-4 c =
     let l = c.before.loop in
-    (digits-good _ l.n l.invariant.fits (sym (digits-end (is_of Digit) _ l.i l.n c.loop-test.false) ∙ l.invariant.left), sym (past_end (is_of Digit) _ _ c.loop-test.false) ∙ l.invariant.stop)
+    (digits_good _ l.n l.invariant.fits (sym (digits_end (is_of Digit) _ l.i l.n c.loop-test.false) ∙ l.invariant.left), sym (past_end (is_of Digit) _ _ c.loop-test.false) ∙ l.invariant.stop)
 
-pub digits-at-spec : {M : Type 1} → statement M
-digits-at-spec =
+pub digits_at_spec : {M : Type 1} → statement M
+digits_at_spec =
     tie.close
     (tie.spec
     invariant-loop

@@ -2,8 +2,8 @@
 use native.Mathlib.Omega.{arith}
 use lib.ListN.{length, drop_of_length-le}
 use Prim.Native.Nat.{◌+◌, ◌≤◌}
-use Rattle.text.specs.Spelling.{isNumeral}
-use Rattle.text.specs.Scan.{numberRead}
+use Rattle.text.specs.Spelling.{is_numeral}
+use Rattle.text.specs.Scan.{number_read}
 use borrow.Author.Rules.{rules}
 use Rattle.text.proofs.numbers.number_behind.Statement.{statement}
 use Rattle.text.proofs.numbers.number_behind.Tie as tie
@@ -18,11 +18,11 @@ returns : tie.Need-returns
 returns c = search rules
 
 returns-2 : tie.Need-returns-2
-unfolding numberRead isNumeral
+unfolding number_read is_numeral
 returns-2 c =
     let s = c.before.before.args in
     let h : length s.text.now ≤ s.at + 1 = omega arith in
     rw (drop_of_length-le s.text.now h)
 
-pub number-behind-spec : {M : Type 1} → statement M
-number-behind-spec = tie.close (tie.spec add-next number-at-requires returns returns-2)
+pub number_behind_spec : {M : Type 1} → statement M
+number_behind_spec = tie.close (tie.spec add-next number-at-requires returns returns-2)

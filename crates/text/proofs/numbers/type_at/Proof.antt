@@ -1,6 +1,6 @@
 -- `type_at` meets its contract: the colon and the letter, then the K.
 use borrow.Author.Rules.{rules}
-use Rattle.text.proofs.TypeLaws.{none_read, type-short, type-colon, type-letter, type-read}
+use Rattle.text.proofs.TypeLaws.{none_read, type_short, type_colon, type_letter, type_read}
 use Rattle.text.proofs.numbers.type_at.Statement.{statement}
 use Rattle.text.proofs.numbers.type_at.Tie as tie
 
@@ -11,7 +11,7 @@ no-type-requires : tie.Need-no-type-requires
 no-type-requires c κs = search rules
 
 returns : tie.Need-returns
-returns c = let a = c.before.before.before.args in none_read _ _ _ _ c.no-type.ensures (type-short a.line.now a.at c.before.if1.true)
+returns c = let a = c.before.before.before.args in none_read _ _ _ _ c.no_type.ensures (type_short a.line.now a.at c.before.if1.true)
 
 shared-slice-read-if2 : tie.Need-shared-slice-read-if2
 shared-slice-read-if2 c = search rules
@@ -20,7 +20,7 @@ no-type-requires-2 : tie.Need-no-type-requires-2
 no-type-requires-2 c κs = search rules
 
 returns-2 : tie.Need-returns-2
-returns-2 c = let a = c.before.before.before.before.before.args in none_read _ _ _ _ c.no-type2.ensures (type-colon a.line.now a.at c.before.before.before.if1.false c.before.if2.true)
+returns-2 c = let a = c.before.before.before.before.before.args in none_read _ _ _ _ c.no-type2.ensures (type_colon a.line.now a.at c.before.before.before.if1.false c.before.if2.true)
 
 add-letter : tie.Need-overflow-add-letter
 add-letter c = search rules
@@ -32,7 +32,7 @@ no-type-requires-3 : tie.Need-no-type-requires-3
 no-type-requires-3 c κs = search rules
 
 returns-3 : tie.Need-returns-3
-returns-3 c = let a = c.before.before.before.before.before.before.before.args in none_read _ _ _ _ c.no-type3.ensures (type-letter a.line.now a.at c.before.before.before.before.before.if1.false c.before.before.before.if2.false c.before.if3.true)
+returns-3 c = let a = c.before.before.before.before.before.before.before.args in none_read _ _ _ _ c.no-type3.ensures (type_letter a.line.now a.at c.before.before.before.before.before.if1.false c.before.before.before.if2.false c.before.if3.true)
 
 add-width-at : tie.Need-overflow-add-width-at
 add-width-at c = search rules
@@ -41,10 +41,10 @@ width-at-requires : tie.Need-width-at-requires
 width-at-requires c κs = search rules
 
 returns-4 : tie.Need-returns-4
-returns-4 c = let a = c.before.before.before.before.before.before.before.args in type-read a.line.now a.at c.before.before.before.before.before.if1.false c.before.before.before.if2.false c.before.if3.false _ _ c.width-at.ensures.0 c.width-at.ensures.1
+returns-4 c = let a = c.before.before.before.before.before.before.before.args in type_read a.line.now a.at c.before.before.before.before.before.if1.false c.before.before.before.if2.false c.before.if3.false _ _ c.width-at.ensures.0 c.width-at.ensures.1
 
-pub type-at-spec : {M : Type 1} → statement M
-type-at-spec =
+pub type_at_spec : {M : Type 1} → statement M
+type_at_spec =
     tie.close
     (tie.spec
     sub-if1

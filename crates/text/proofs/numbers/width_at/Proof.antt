@@ -6,24 +6,24 @@ use native.Mathlib.Omega.{arith}
 use lib.ListN.{length, get_or, drop}
 use borrow.Author.Rules.{rules}
 use borrow.Author.Tests.{not-true, not-false}
-use Rattle.text.specs.Bytes.{isDigit}
-use Rattle.text.specs.Scan.{endsToken}
-use Rattle.text.proofs.TypeLaws.{Led, Longer, none_read, width-none, width-other, led, width_one, longer, width-second, width_not, width_two}
-use Rattle.text.proofs.SeenLaws.{digit-bounds}
+use Rattle.text.specs.Bytes.{is_digit}
+use Rattle.text.specs.Scan.{ends_token}
+use Rattle.text.proofs.TypeLaws.{Led, Longer, none_read, width_none, width_other, led, width_one, longer, width_second, width_not, width_two}
+use Rattle.text.proofs.SeenLaws.{digit_bounds}
 use Rattle.text.proofs.FirstByteLaws.{goes_on}
 use Rattle.text.proofs.numbers.width_at.Statement.{statement}
 use Rattle.text.proofs.numbers.width_at.Tie as tie
 
 -- behind the first digit
-first : (c : tie.Else2) → let a = c.before.before.before.before.before.args in isDigit (get_or a.line.now a.at 0) ≡ true
+first : (c : tie.Else2) → let a = c.before.before.before.before.before.args in is_digit (get_or a.line.now a.at 0) ≡ true
 first c = sym c.before.is_digit.ensures ∙ not-false _ c.if2.false
 
 is-led : (c : tie.Else2) → let a = c.before.before.before.before.before.args in Led a.line.now a.at
 is-led c = let a = c.before.before.before.before.before.args in led a.line.now a.at (omega arith) (first c)
 
 -- at a second byte
-more : (c : tie.Else3) → let a = c.before.before.before.before.before.before.before.before.args in endsToken (drop (a.at + 1) a.line.now) ≡ false
-more c = sym c.before.token-ends.ensures ∙ c.if3.false
+more : (c : tie.Else3) → let a = c.before.before.before.before.before.before.before.before.args in ends_token (drop (a.at + 1) a.line.now) ≡ false
+more c = sym c.before.token_ends.ensures ∙ c.if3.false
 
 room : (c : tie.Else3) → let a = c.before.before.before.before.before.before.before.before.args in a.at + 1 < length a.line.now
 room c = let a = c.before.before.before.before.before.before.before.before.args in (goes_on a.line.now (a.at + 1) (more c)).0
@@ -32,14 +32,14 @@ is-longer : (c : tie.Else3) → let a = c.before.before.before.before.before.bef
 is-longer c = let a = c.before.before.before.before.before.before.before.before.args in longer a.line.now a.at (is-led c.before.before.before) (more c)
 
 -- behind the second digit
-second : (c : tie.Else4) → let a = c.before.before.before.before.before.before.before.before.before.before.before.args in isDigit (get_or a.line.now (a.at + 1) 0) ≡ true
+second : (c : tie.Else4) → let a = c.before.before.before.before.before.before.before.before.before.before.before.args in is_digit (get_or a.line.now (a.at + 1) 0) ≡ true
 second c = sym c.before.is-digit2.ensures ∙ not-false _ c.if4.false
 
 no-type-requires : tie.Need-no-type-requires
 no-type-requires c κs = search rules
 
 returns : tie.Need-returns
-returns c = let a = c.before.before.before.args in none_read _ _ _ _ c.no-type.ensures (width-none a.line.now a.at (omega arith))
+returns c = let a = c.before.before.before.args in none_read _ _ _ _ c.no_type.ensures (width_none a.line.now a.at (omega arith))
 
 shared-slice-read-is-digit : tie.Need-shared-slice-read-is-digit
 shared-slice-read-is-digit c = search rules
@@ -51,16 +51,16 @@ no-type-requires-2 : tie.Need-no-type-requires-2
 no-type-requires-2 c κs = search rules
 
 returns-2 : tie.Need-returns-2
-returns-2 c = let a = c.before.before.before.before.before.before.args in none_read _ _ _ _ c.no-type2.ensures (width-other a.line.now a.at (omega arith) (sym c.before.before.is_digit.ensures ∙ not-true _ c.before.if2.true))
+returns-2 c = let a = c.before.before.before.before.before.before.args in none_read _ _ _ _ c.no-type2.ensures (width_other a.line.now a.at (omega arith) (sym c.before.before.is_digit.ensures ∙ not-true _ c.before.if2.true))
 
 shared-slice-read-a : tie.Need-shared-slice-read-a
 shared-slice-read-a c = search rules
 
 sub-a : tie.Need-overflow-sub-a
-sub-a c = (digit-bounds _ (first c.before)).0
+sub-a c = (digit_bounds _ (first c.before)).0
 
 cast-a : tie.Need-overflow-cast-a
-cast-a c = let b = digit-bounds _ (first c.before) in omega arith
+cast-a c = let b = digit_bounds _ (first c.before) in omega arith
 
 add-next : tie.Need-overflow-add-next
 add-next c = search rules
@@ -75,7 +75,7 @@ returns-3 : tie.Need-returns-3
 returns-3 c =
     let a = c.before.before.before.before.before.before.before.before.before.args in
     let s = c.before.before.before.before in
-    width_one a.line.now a.at (is-led s) (first s) (sym c.before.before.token-ends.ensures ∙ c.before.if3.true) _ c.width.ensures
+    width_one a.line.now a.at (is-led s) (first s) (sym c.before.before.token_ends.ensures ∙ c.before.if3.true) _ c.width.ensures
 
 shared-slice-read-is-digit-2 : tie.Need-shared-slice-read-is-digit-2
 shared-slice-read-is-digit-2 c = room c.before
@@ -87,16 +87,16 @@ no-type-requires-3 : tie.Need-no-type-requires-3
 no-type-requires-3 c κs = search rules
 
 returns-4 : tie.Need-returns-4
-returns-4 c = let a = c.before.before.before.before.before.before.before.before.before.before.before.before.args in none_read _ _ _ _ c.no-type3.ensures (width-second a.line.now a.at (is-longer c.before.before.before.before) (sym c.before.before.is-digit2.ensures ∙ not-true _ c.before.if4.true))
+returns-4 c = let a = c.before.before.before.before.before.before.before.before.before.before.before.before.args in none_read _ _ _ _ c.no-type3.ensures (width_second a.line.now a.at (is-longer c.before.before.before.before) (sym c.before.before.is-digit2.ensures ∙ not-true _ c.before.if4.true))
 
 shared-slice-read-b : tie.Need-shared-slice-read-b
 shared-slice-read-b c = room c.before.before.before.before
 
 sub-b : tie.Need-overflow-sub-b
-sub-b c = (digit-bounds _ (second c.before)).0
+sub-b c = (digit_bounds _ (second c.before)).0
 
 cast-b : tie.Need-overflow-cast-b
-cast-b c = let b = digit-bounds _ (second c.before) in omega arith
+cast-b c = let b = digit_bounds _ (second c.before) in omega arith
 
 add-stop : tie.Need-overflow-add-stop
 add-stop c = search rules
@@ -105,10 +105,10 @@ token-ends-requires-2 : tie.Need-token-ends-requires-2
 token-ends-requires-2 c κs = omega (arith, room c.before.before.before.before)
 
 mul-width : tie.Need-overflow-mul-width
-mul-width c = omega (arith, digit-bounds _ (first c.before.before.before.before.before.before.before.before.before))
+mul-width c = omega (arith, digit_bounds _ (first c.before.before.before.before.before.before.before.before.before))
 
 add-width : tie.Need-overflow-add-width
-add-width c = omega (arith, digit-bounds _ (first c.before.before.before.before.before.before.before.before.before), digit-bounds _ (second c.before.before.before))
+add-width c = omega (arith, digit_bounds _ (first c.before.before.before.before.before.before.before.before.before), digit_bounds _ (second c.before.before.before))
 
 width-requires-2 : tie.Need-width-requires-2
 width-requires-2 c κs = search rules
@@ -128,8 +128,8 @@ returns-6 c =
     let s = c.before.before.before.before in
     none_read _ _ _ _ c.no-type4.ensures (width_not a.line.now a.at (is-longer s.before.before.before) (first s.before.before.before.before.before.before) (rw c.before.before.token-ends2.ensures at c.before.if5.false))
 
-pub width-at-spec : {M : Type 1} → statement M
-width-at-spec =
+pub width_at_spec : {M : Type 1} → statement M
+width_at_spec =
     tie.close
     (tie.spec
     no-type-requires

@@ -2,7 +2,7 @@
 use mathlib.Core.Path.{sym}
 use borrow.Author.Rules.{rules}
 use Rattle.text.specs.Scan.{is_of}
-use Rattle.text.proofs.RunLaws.{every-past}
+use Rattle.text.proofs.RunLaws.{every_past}
 use Rattle.text.proofs.scan.all.Statement.{statement}
 use Rattle.text.proofs.scan.all.Tie as tie
 
@@ -10,7 +10,7 @@ scan-requires : tie.Need-scan-requires
 scan-requires c κs = search rules
 
 returns : tie.Need-returns
-returns c = let a = c.before.before.args in rw c.scan.ensures (sym (every-past (is_of a.class) a.text.now a.at c.before.before.requires))
+returns c = let a = c.before.before.args in rw c.scan.ensures (sym (every_past (is_of a.class) a.text.now a.at c.before.before.requires))
 
-pub all-spec : {M : Type 1} → statement M
-all-spec = tie.close (tie.spec scan-requires returns)
+pub all_spec : {M : Type 1} → statement M
+all_spec = tie.close (tie.spec scan-requires returns)

@@ -61,8 +61,8 @@ returns-6 : tie.Need-returns-6
 unfolding is_of
 returns-6 c = rw (c.before.enum-told5.given.1, c.is-printing.ensures)
 
-pub is-of-spec : {M : Type 1} → statement M
-is-of-spec =
+pub is_of_spec : {M : Type 1} → statement M
+is_of_spec =
     tie.close
     (tie.spec
     enum-known-class

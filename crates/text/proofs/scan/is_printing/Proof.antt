@@ -6,5 +6,5 @@ use Rattle.text.proofs.scan.is_printing.Tie as tie
 returns : tie.Need-returns
 returns c = refl
 
-pub is-printing-spec : {M : Type 1} → statement M
-is-printing-spec = tie.close (tie.spec returns)
+pub is_printing_spec : {M : Type 1} → statement M
+is_printing_spec = tie.close (tie.spec returns)

@@ -1,12 +1,12 @@
 use mathlib.Core.Path.{sym}
 use native.Mathlib.Omega.{arith}
-use Rattle.text.proofs.LineLaws.{leads-none, leads-alone, leads-more}
+use Rattle.text.proofs.LineLaws.{leads_none, leads_alone, leads_more}
 use borrow.Author.Rules.{rules}
 use Rattle.text.proofs.scan.leads.Statement.{statement}
 use Rattle.text.proofs.scan.leads.Tie as tie
 
 returns : tie.Need-returns
-returns c = sym (leads-none c.before.before.args.line.now c.before.before.args.at c.before.before.args.letter (omega arith))
+returns c = sym (leads_none c.before.before.args.line.now c.before.before.args.at c.before.before.args.letter (omega arith))
 
 add-next : tie.Need-overflow-add-next
 add-next c = search rules
@@ -15,7 +15,7 @@ shared-slice-read-result : tie.Need-shared-slice-read-result
 shared-slice-read-result c = search rules
 
 returns-2 : tie.Need-returns-2
-returns-2 c = sym (leads-alone c.before.before.before.before.args.line.now c.before.before.before.before.args.at c.before.before.before.before.args.letter (omega arith))
+returns-2 c = sym (leads_alone c.before.before.before.before.args.line.now c.before.before.before.before.args.at c.before.before.before.before.args.letter (omega arith))
 
 shared-slice-read-result-2 : tie.Need-shared-slice-read-result-2
 shared-slice-read-result-2 c = search rules
@@ -27,10 +27,10 @@ is-space-requires : tie.Need-is-space-requires
 is-space-requires c κs = search rules
 
 returns-3 : tie.Need-returns-3
-returns-3 c = rw c.is-space.ensures (sym (leads-more c.before.before.before.before.before.before.args.line.now c.before.before.before.before.before.before.args.at c.before.before.before.before.before.before.args.letter (omega arith)))
+returns-3 c = rw c.is-space.ensures (sym (leads_more c.before.before.before.before.before.before.args.line.now c.before.before.before.before.before.before.args.at c.before.before.before.before.before.before.args.letter (omega arith)))
 
-pub leads-spec : {M : Type 1} → statement M
-leads-spec =
+pub leads_spec : {M : Type 1} → statement M
+leads_spec =
     tie.close
     (tie.spec
     returns

@@ -6,9 +6,9 @@ use lib.Count.{count_trailing_zeros}
 use lib.ListN.{length}
 use Rattle.text.specs.declared.Class.TheVariants.{Printing}
 use Rattle.text.specs.Scan.{is_of, past, Scanned}
-use Rattle.text.proofs.RunLaws.{past-le}
-use Rattle.text.proofs.ScanLaws.{scan-starts, scan-leaps}
-use Rattle.text.proofs.StopLaws.{stops-clear, stops_first}
+use Rattle.text.proofs.RunLaws.{past_le}
+use Rattle.text.proofs.ScanLaws.{scan_starts, scan_leaps}
+use Rattle.text.proofs.StopLaws.{stops_clear, stops_first}
 use Rattle.text.proofs.scan.printing_bytes.Statement.{statement}
 use Rattle.text.proofs.scan.printing_bytes.Tie as tie
 
@@ -19,7 +19,7 @@ abbrev decreases-loop : tie.decreases-loop
 decreases-loop text at i₀ i = length text - i
 
 loop-holds : tie.Need-loop-init invariant-loop decreases-loop
-loop-holds c = scan-starts c.before.requires
+loop-holds c = scan_starts c.before.requires
 
 sub-loop : tie.Need-overflow-sub-loop invariant-loop decreases-loop
 sub-loop c = omega arith
@@ -37,7 +37,7 @@ stopped c =
 
 -- within the text
 inside : (c : tie.Then1 invariant-loop decreases-loop) → c.before.before.before.loop.i + count_trailing_zeros 32 c.before.stops16.result ≤ length c.before.before.before.before.before.args.text.now
-inside c = let l = c.before.before.before in omega (arith, stopped c, past-le (is_of Printing) l.before.before.args.text.now l.loop.i l.loop.invariant.within)
+inside c = let l = c.before.before.before in omega (arith, stopped c, past_le (is_of Printing) l.before.before.args.text.now l.loop.i l.loop.invariant.within)
 
 cast-result : tie.Need-overflow-cast-result invariant-loop decreases-loop
 cast-result c = omega (arith, inside c)
@@ -58,7 +58,7 @@ loop-again : tie.Need-loop-preserved invariant-loop decreases-loop
 loop-again c =
     let l = c.before.before.before in
     let i = l.loop.i in
-    scan-leaps l.loop.invariant (record { within = omega arith; onward = omega arith; ends = stops-clear l.before.before.args.text.now 16 i (omega arith) (sym c.before.stops16.ensures ∙ c.if1.false) })
+    scan_leaps l.loop.invariant (record { within = omega arith; onward = omega arith; ends = stops_clear l.before.before.args.text.now 16 i (omega arith) (sym c.before.stops16.ensures ∙ c.if1.false) })
 
 scan-requires : tie.Need-scan-requires invariant-loop decreases-loop
 scan-requires c κs = omega arith
@@ -66,8 +66,8 @@ scan-requires c κs = omega arith
 returns-2 : tie.Need-returns-2 invariant-loop decreases-loop
 returns-2 c = c.scan.ensures ∙ c.before.before.loop.invariant.ends
 
-pub printing-bytes-spec : {M : Type 1} → statement M
-printing-bytes-spec =
+pub printing_bytes_spec : {M : Type 1} → statement M
+printing_bytes_spec =
     tie.close
     (tie.spec
     invariant-loop

@@ -5,7 +5,7 @@ use lib.ListN.{length}
 use borrow.Author.Rules.{rules}
 use Rattle.text.specs.declared.Class.TheVariants.{Space}
 use Rattle.text.specs.Scan.{is_of, Scanned}
-use Rattle.text.proofs.ScanLaws.{scan-starts, scan_steps, scan-stops, scan-ends}
+use Rattle.text.proofs.ScanLaws.{scan_starts, scan_steps, scan_stops, scan_ends}
 use Rattle.text.proofs.scan.spaces.Statement.{statement}
 use Rattle.text.proofs.scan.spaces.Tie as tie
 
@@ -16,7 +16,7 @@ abbrev decreases-loop : tie.decreases-loop
 decreases-loop text at i₀ i = length text - i
 
 loop-holds : tie.Need-loop-init invariant-loop decreases-loop
-loop-holds c = scan-starts c.before.requires
+loop-holds c = scan_starts c.before.requires
 
 shared-slice-read-is-space : tie.Need-shared-slice-read-is-space invariant-loop decreases-loop
 shared-slice-read-is-space c = omega arith
@@ -36,13 +36,13 @@ loop-again c = let s = c.before.before.before in scan_steps s.before.loop.invari
 
 returns : tie.Need-returns invariant-loop decreases-loop
 unfolding is_of
-returns c = let s = c.before.before.before in scan-stops s.before.loop.invariant s.loop-test.true c.before.is-space.ensures c.if1.false
+returns c = let s = c.before.before.before in scan_stops s.before.loop.invariant s.loop-test.true c.before.is-space.ensures c.if1.false
 
 returns-2 : tie.Need-returns-2 invariant-loop decreases-loop
-returns-2 c = scan-ends c.before.loop.invariant c.loop-test.false
+returns-2 c = scan_ends c.before.loop.invariant c.loop-test.false
 
-pub spaces-spec : {M : Type 1} → statement M
-spaces-spec =
+pub spaces_spec : {M : Type 1} → statement M
+spaces_spec =
     tie.close
     (tie.spec
     invariant-loop

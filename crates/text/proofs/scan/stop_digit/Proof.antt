@@ -15,5 +15,5 @@ returns c = (sym (digit_clear _ (sym c.before.is-printing.ensures ∙ c.if1.true
 returns-2 : tie.Need-returns-2
 returns-2 c = (sym (digit_set _ (sym c.before.is-printing.ensures ∙ c.if1.false)), omega arith)
 
-pub stop-digit-spec : {M : Type 1} → statement M
-stop-digit-spec = tie.close (tie.spec is-printing-requires returns returns-2)
+pub stop_digit_spec : {M : Type 1} → statement M
+stop_digit_spec = tie.close (tie.spec is-printing-requires returns returns-2)

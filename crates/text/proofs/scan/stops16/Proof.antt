@@ -1,6 +1,6 @@
 -- `stops16` meets its contract: the first half, and the second.
 use borrow.Author.Rules.{rules}
-use Rattle.text.proofs.StopLaws.{stops-add}
+use Rattle.text.proofs.StopLaws.{stops_add}
 use Rattle.text.proofs.scan.stops16.Statement.{statement}
 use Rattle.text.proofs.scan.stops16.Tie as tie
 
@@ -24,8 +24,8 @@ returns c =
     let one = c.before.stops8.ensures in
     let two = c.stops82.ensures in
     let a = c.before.before.before in
-    rw (one.0, two.0) (stops-add a.args.text.now 8 a.args.at 8 a.requires)
+    rw (one.0, two.0) (stops_add a.args.text.now 8 a.args.at 8 a.requires)
 
-pub stops16-spec : {M : Type 1} → statement M
-stops16-spec =
+pub stops16_spec : {M : Type 1} → statement M
+stops16_spec =
     tie.close (tie.spec stops8-requires add-stops8 stops8-requires-2 mul-result add-result returns)

@@ -1,7 +1,7 @@
 -- `stops2` meets its contract: two bytes, one by one.
 use borrow.Author.Rules.{rules}
 use native.Mathlib.Omega.{arith}
-use Rattle.text.proofs.StopLaws.{stops-two}
+use Rattle.text.proofs.StopLaws.{stops_two}
 use Rattle.text.proofs.scan.stops2.Statement.{statement}
 use Rattle.text.proofs.scan.stops2.Tie as tie
 
@@ -31,10 +31,10 @@ returns c =
     let one = c.before.before.stop-digit.ensures in
     let two = c.stop-digit2.ensures in
     let a = c.before.before.before.before.before in
-    (rw (one.0, two.0) (stops-two a.args.text.now a.args.at a.requires), omega (arith, one.1, two.1))
+    (rw (one.0, two.0) (stops_two a.args.text.now a.args.at a.requires), omega (arith, one.1, two.1))
 
-pub stops2-spec : {M : Type 1} → statement M
-stops2-spec =
+pub stops2_spec : {M : Type 1} → statement M
+stops2_spec =
     tie.close
     (tie.spec
     add-next

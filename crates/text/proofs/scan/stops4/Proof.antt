@@ -1,7 +1,7 @@
 -- `stops4` meets its contract: the first half, and the second.
 use borrow.Author.Rules.{rules}
 use native.Mathlib.Omega.{arith}
-use Rattle.text.proofs.StopLaws.{stops-add}
+use Rattle.text.proofs.StopLaws.{stops_add}
 use Rattle.text.proofs.scan.stops4.Statement.{statement}
 use Rattle.text.proofs.scan.stops4.Tie as tie
 
@@ -25,8 +25,8 @@ returns c =
     let one = c.before.stops2.ensures in
     let two = c.stops22.ensures in
     let a = c.before.before.before in
-    (rw (one.0, two.0) (stops-add a.args.text.now 2 a.args.at 2 a.requires), omega (arith, one.1, two.1))
+    (rw (one.0, two.0) (stops_add a.args.text.now 2 a.args.at 2 a.requires), omega (arith, one.1, two.1))
 
-pub stops4-spec : {M : Type 1} → statement M
-stops4-spec =
+pub stops4_spec : {M : Type 1} → statement M
+stops4_spec =
     tie.close (tie.spec stops2-requires add-stops2 stops2-requires-2 mul-result add-result returns)

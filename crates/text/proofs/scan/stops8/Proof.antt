@@ -1,7 +1,7 @@
 -- `stops8` meets its contract: the first half, and the second.
 use borrow.Author.Rules.{rules}
 use native.Mathlib.Omega.{arith}
-use Rattle.text.proofs.StopLaws.{stops-add}
+use Rattle.text.proofs.StopLaws.{stops_add}
 use Rattle.text.proofs.scan.stops8.Statement.{statement}
 use Rattle.text.proofs.scan.stops8.Tie as tie
 
@@ -25,8 +25,8 @@ returns c =
     let one = c.before.stops4.ensures in
     let two = c.stops42.ensures in
     let a = c.before.before.before in
-    (rw (one.0, two.0) (stops-add a.args.text.now 4 a.args.at 4 a.requires), omega (arith, one.1, two.1))
+    (rw (one.0, two.0) (stops_add a.args.text.now 4 a.args.at 4 a.requires), omega (arith, one.1, two.1))
 
-pub stops8-spec : {M : Type 1} → statement M
-stops8-spec =
+pub stops8_spec : {M : Type 1} → statement M
+stops8_spec =
     tie.close (tie.spec stops4-requires add-stops4 stops4-requires-2 mul-result add-result returns)

@@ -5,7 +5,7 @@ use native.Mathlib.Omega.{arith}
 use lib.ListN.{length, get_or-eq_default}
 use borrow.Author.Rules.{rules}
 use borrow.Author.Tests.{ne_eqb}
-use Rattle.refusal.proofs.BoolLaws.{and-false}
+use Rattle.refusal.proofs.BoolLaws.{and_false}
 use Rattle.text.proofs.ContentLaws.{ends_at}
 use Rattle.text.proofs.scan.terminator_length.Statement.{statement}
 use Rattle.text.proofs.scan.terminator_length.Tie as tie
@@ -23,7 +23,7 @@ returns-2 : tie.Need-returns-2
 returns-2 c =
     let a = c.before.before.before.args in
     let h : length a.file.now ≤ a.at + 1 = omega arith in
-    sym (ends_at a.file.now a.at ∙ rw (ne_eqb _ 10 c.before.if1.false, get_or-eq_default a.file.now 0 h, and-false))
+    sym (ends_at a.file.now a.at ∙ rw (ne_eqb _ 10 c.before.if1.false, get_or-eq_default a.file.now 0 h, and_false))
 
 shared-slice-read-if3 : tie.Need-shared-slice-read-if3
 shared-slice-read-if3 c = search rules
@@ -43,8 +43,8 @@ returns-4 c =
     let a = b.before.before.args in
     sym (ends_at a.file.now a.at ∙ rw (ne_eqb _ 10 b.if1.false, c.if3.false))
 
-pub terminator-length-spec : {M : Type 1} → statement M
-terminator-length-spec =
+pub terminator_length_spec : {M : Type 1} → statement M
+terminator_length_spec =
     tie.close
     (tie.spec
     shared-slice-read-if1

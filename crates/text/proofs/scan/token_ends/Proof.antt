@@ -5,12 +5,12 @@ use native.Mathlib.Omega.{arith}
 use lib.ListN.{length, drop_of_length-le}
 use lib.Seq.{drop-cons}
 use borrow.Author.Rules.{rules}
-use Rattle.text.specs.Scan.{endsToken}
+use Rattle.text.specs.Scan.{ends_token}
 use Rattle.text.proofs.scan.token_ends.Statement.{statement}
 use Rattle.text.proofs.scan.token_ends.Tie as tie
 
 returns : tie.Need-returns
-unfolding endsToken
+unfolding ends_token
 returns c =
     let a = c.before.before.args in
     let h : length a.line.now ≤ a.at = omega arith in
@@ -23,11 +23,11 @@ is-space-requires : tie.Need-is-space-requires
 is-space-requires c κs = search rules
 
 returns-2 : tie.Need-returns-2
-unfolding endsToken
+unfolding ends_token
 returns-2 c =
     let a = c.before.before.before.before.args in
     let h : a.at < length a.line.now = omega arith in
     c.is-space.ensures ∙ rw (drop-cons a.line.now a.at 0 h)
 
-pub token-ends-spec : {M : Type 1} → statement M
-token-ends-spec = tie.close (tie.spec returns shared-slice-read-is-space is-space-requires returns-2)
+pub token_ends_spec : {M : Type 1} → statement M
+token_ends_spec = tie.close (tie.spec returns shared-slice-read-is-space is-space-requires returns-2)

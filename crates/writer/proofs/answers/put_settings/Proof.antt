@@ -1,19 +1,19 @@
 use Prim.Native.Nat.{◌-◌}
 use native.Mathlib.Omega.{arith}
 use borrow.Author.Rules.{rules}
-use Rattle.printing.proofs.RowLaws.{Putting, putting-starts, putting-room, putting-more, putting-done}
-use Rattle.writer.proofs.SettingLaws.{settingAt, settings-are}
+use Rattle.printing.proofs.RowLaws.{Putting, putting_starts, putting_room, putting_more, putting_done}
+use Rattle.writer.proofs.SettingLaws.{setting_at, settings_are}
 use Rattle.writer.proofs.answers.put_settings.Statement.{statement}
 use Rattle.writer.proofs.answers.put_settings.Tie as tie
 
 abbrev invariant-loop : tie.invariant-loop
-invariant-loop file variables n row room₀ at i₀ end₀ room i end = Putting (settingAt file variables row) n room₀ at room i end
+invariant-loop file variables n row room₀ at i₀ end₀ room i end = Putting (setting_at file variables row) n room₀ at room i end
 
 abbrev decreases-loop : tie.decreases-loop
 decreases-loop file variables n row room₀ at i₀ end₀ room i end = n - i
 
 loop-holds : tie.Need-loop-init invariant-loop decreases-loop
-loop-holds c = putting-starts _ _ _ _
+loop-holds c = putting_starts _ _ _ _
 
 mul-put-setting : tie.Need-overflow-mul-put-setting invariant-loop decreases-loop
 mul-put-setting c = search rules
@@ -32,8 +32,8 @@ put-setting-requires c κs =
     let l = c.before.before.before.before in
     let s = l.before.before.before.before in
     let a = s.args in
-    let all = settings-are a.file.now a.variables.now a.row.now a.n (omega (arith, s.requires.1)) in
-    putting-room l.loop.invariant (rw all at s.requires.2) c.before.before.before.loop-test.true
+    let all = settings_are a.file.now a.variables.now a.row.now a.n (omega (arith, s.requires.1)) in
+    putting_room l.loop.invariant (rw all at s.requires.2) c.before.before.before.loop-test.true
 
 add-i : tie.Need-overflow-add-i invariant-loop decreases-loop
 add-i c = search rules
@@ -43,12 +43,12 @@ loop-less c = search rules
 
 loop-again : tie.Need-loop-preserved invariant-loop decreases-loop
 loop-again c =
-    let p = c.before.before.put-setting in
+    let p = c.before.before.put_setting in
     let l = c.before.before.before.before.before.before.before in
     let s = l.before.before.before.before in
     let a = s.args in
-    let all = settings-are a.file.now a.variables.now a.row.now a.n (omega (arith, s.requires.1)) in
-    putting-more l.loop.invariant (rw all at s.requires.2) c.before.before.before.before.before.before.loop-test.true p.auto.1.1.1.0 p.ensures
+    let all = settings_are a.file.now a.variables.now a.row.now a.n (omega (arith, s.requires.1)) in
+    putting_more l.loop.invariant (rw all at s.requires.2) c.before.before.before.before.before.before.loop-test.true p.auto.1.1.1.0 p.ensures
 
 same_length : tie.Need-same-length invariant-loop decreases-loop
 same_length c = c.before.loop.invariant.whole
@@ -57,11 +57,11 @@ returns : tie.Need-returns invariant-loop decreases-loop
 returns c =
     let s = c.before.before.before.before.before in
     let a = s.args in
-    let all = settings-are a.file.now a.variables.now a.row.now a.n (omega (arith, s.requires.1)) in
-    rw all (putting-done c.before.loop.invariant c.loop-test.false)
+    let all = settings_are a.file.now a.variables.now a.row.now a.n (omega (arith, s.requires.1)) in
+    rw all (putting_done c.before.loop.invariant c.loop-test.false)
 
-pub put-settings-spec : {M : Type 1} → statement M
-put-settings-spec =
+pub put_settings_spec : {M : Type 1} → statement M
+put_settings_spec =
     tie.close
     (tie.spec
     invariant-loop

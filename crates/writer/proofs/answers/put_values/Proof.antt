@@ -1,11 +1,11 @@
 use native.Mathlib.Omega.{arith}
 use borrow.Author.Rules.{rules}
-use Rattle.writer.proofs.AnswerLaws.{put-no-values, values_length, put-values}
+use Rattle.writer.proofs.AnswerLaws.{put_no_values, values_length, put_values}
 use Rattle.writer.proofs.answers.put_values.Statement.{statement}
 use Rattle.writer.proofs.answers.put_values.Tie as tie
 
 returns : tie.Need-returns
-returns c = put-no-values _ _ _ _ c.if1.true _ _
+returns c = put_no_values _ _ _ _ c.if1.true _ _
 
 put-byte-requires : tie.Need-put-byte-requires
 put-byte-requires c κs =
@@ -34,10 +34,10 @@ returns-2 c =
     let some = c.before.before.before.before.before.before.before.before.before.before.before.before.if1.false in
     let first = c.before.before.before.before.before.before.before.before.before.before.put_byte.ensures in
     let values = c.before.before.before.before.before.before.put-settings.ensures in
-    put-values _ _ _ _ some s.requires.2 first values c.before.before.put-byte2.ensures
+    put_values _ _ _ _ some s.requires.2 first values c.before.before.put-byte2.ensures
 
-pub put-values-spec : {M : Type 1} → statement M
-put-values-spec =
+pub put_values_spec : {M : Type 1} → statement M
+put_values_spec =
     tie.close
     (tie.spec
     returns

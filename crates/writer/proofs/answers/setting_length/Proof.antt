@@ -1,8 +1,8 @@
 use native.Mathlib.Omega.{arith}
 use borrow.Author.Rules.{rules}
-use Rattle.printing.proofs.DigitLaws.{digits-count}
+use Rattle.printing.proofs.DigitLaws.{digits_count}
 use Rattle.printing.proofs.PartLaws.{part_length}
-use Rattle.writer.proofs.SettingLaws.{setting-length}
+use Rattle.writer.proofs.SettingLaws.{setting_length}
 use Rattle.writer.proofs.answers.setting_length.Statement.{statement}
 use Rattle.writer.proofs.answers.setting_length.Tie as tie
 
@@ -25,16 +25,16 @@ digit-count-requires : tie.Need-digit-count-requires
 digit-count-requires c κs = search rules
 
 add-result-2 : tie.Need-overflow-add-result-2
-add-result-2 c = omega (arith, digits-count c.before.before.before.before.before.args.v)
+add-result-2 c = omega (arith, digits_count c.before.before.before.before.before.args.v)
 
 returns : tie.Need-returns
 returns c =
     let s = c.before.before.before.before.before in
-    let name = rw (c.before.before.name-length.ensures, c.before.before.before.name-start.ensures) at (part_length c.before.part.ensures) in
-    omega (arith, name, setting-length s.args.file.now s.args.word s.args.v)
+    let name = rw (c.before.before.name_length_lem.ensures, c.before.before.before.name-start.ensures) at (part_length c.before.part.ensures) in
+    omega (arith, name, setting_length s.args.file.now s.args.word s.args.v)
 
-pub setting-length-spec : {M : Type 1} → statement M
-setting-length-spec =
+pub setting_length_spec : {M : Type 1} → statement M
+setting_length_spec =
     tie.close
     (tie.spec
     name-start-requires

@@ -1,8 +1,8 @@
 use Prim.Native.Nat.{◌+◌, ◌-◌}
 use native.Mathlib.Omega.{arith}
 use borrow.Author.Rules.{rules}
-use Rattle.writer.proofs.LoopLaws.{Measuring, measuring-starts, measuring-more, measuring-done}
-use Rattle.writer.proofs.SettingLaws.{settings-are}
+use Rattle.writer.proofs.LoopLaws.{Measuring, measuring_starts, measuring_more, measuring_done}
+use Rattle.writer.proofs.SettingLaws.{settings_are}
 use Rattle.writer.proofs.answers.settings_length.Statement.{statement}
 use Rattle.writer.proofs.answers.settings_length.Tie as tie
 
@@ -13,13 +13,13 @@ abbrev decreases-loop : tie.decreases-loop
 decreases-loop file variables n row i₀ length₀ i length = n - i
 
 -- with the next setting
-more : (c : tie.After-setting-length invariant-loop decreases-loop) → let l = c.before.before.before.before in let a = l.before.before.before.args in Measuring a.file.now a.variables.now a.row.now a.n (l.loop.i + 1) (l.loop.length + c.setting-length.result)
+more : (c : tie.After-setting-length invariant-loop decreases-loop) → let l = c.before.before.before.before in let a = l.before.before.before.args in Measuring a.file.now a.variables.now a.row.now a.n (l.loop.i + 1) (l.loop.length + c.setting_length.result)
 more c =
     let l = c.before.before.before.before in
-    measuring-more l.loop.invariant l.before.before.before.requires.0 c.before.before.before.loop-test.true c.setting-length.ensures
+    measuring_more l.loop.invariant l.before.before.before.requires.0 c.before.before.before.loop-test.true c.setting_length.ensures
 
 loop-holds : tie.Need-loop-init invariant-loop decreases-loop
-loop-holds c = measuring-starts _ _ _ _
+loop-holds c = measuring_starts _ _ _ _
 
 mul-setting-length : tie.Need-overflow-mul-setting-length invariant-loop decreases-loop
 mul-setting-length c = search rules
@@ -52,11 +52,11 @@ returns : tie.Need-returns invariant-loop decreases-loop
 returns c =
     let s = c.before.before.before.before in
     let a = s.args in
-    let all = settings-are a.file.now a.variables.now a.row.now a.n (omega (arith, s.requires.2)) in
-    (rw all (measuring-done c.before.loop.invariant c.loop-test.false), omega arith)
+    let all = settings_are a.file.now a.variables.now a.row.now a.n (omega (arith, s.requires.2)) in
+    (rw all (measuring_done c.before.loop.invariant c.loop-test.false), omega arith)
 
-pub settings-length-spec : {M : Type 1} → statement M
-settings-length-spec =
+pub settings_length_spec : {M : Type 1} → statement M
+settings_length_spec =
     tie.close
     (tie.spec
     invariant-loop

@@ -5,5 +5,5 @@ use Rattle.writer.proofs.claims.round_trip.Tie as tie
 returns : tie.Need-returns
 returns c = round_trip
 
-pub round-trip-spec : {M : Type 1} → statement M
-round-trip-spec = tie.close (tie.spec returns)
+pub round_trip_spec : {M : Type 1} → statement M
+round_trip_spec = tie.close (tie.spec returns)
