@@ -204,6 +204,13 @@ static wide signed_reading(struct operand operand)
     return (wide)operand.value - (negative ? (wide)1 << operand.width : 0);
 }
 
+/* Def. 21: rounds away from zero where the signs differ. */
+static wide signed_quotient(wide a, wide b)
+{
+    bool away = (a < 0) != (b < 0) && a % b != 0;
+    return a / b - (away ? 1 : 0);
+}
+
 static uint64_t result_of(const struct line *line)
 {
     const struct operand *o = line->operands;
@@ -230,9 +237,9 @@ static uint64_t result_of(const struct line *line)
     case SUB: return a - b;
     case MUL: return o[0].value * o[1].value;
     case UDIV: return a / b;
-    case SDIV: return sa / sb;
+    case SDIV: return signed_quotient(sa, sb);
     case UREM: return a % b;
-    case SREM: return sa % sb;
+    case SREM: return sa - signed_quotient(sa, sb) * sb;
     case SHL: return b < o[0].width ? o[0].value << b : 0;
     case ASHR: return sa >> (b < o[0].width ? b : 64);
     case LSHR: return b < o[0].width ? a >> b : 0;
@@ -345,13 +352,6 @@ static struct line line_in_turn(const struct operand *variables, unsigned count,
     case 2: return (struct line){ZEXT, {group[4]}, group[5]};
     default: return (struct line){CONC, {group[6], group[5]}, group[7]};
     }
-}
-
-/* A quotient and a remainder by turns. */
-static struct line signed_division(const struct operand *variables, unsigned count, unsigned number)
-{
-    size_t group = draw(count / GROUP) * GROUP;
-    return make_line(&variables[group], number % 2 ? SREM : SDIV);
 }
 
 static void print_line(struct text *text, const struct line *line)
@@ -886,13 +886,10 @@ static const struct input inputs[] = {
     {"names that end alike", 256, 1024, name_ended_alike, sparing_line},
     {"names in one bucket", 256, 1024, name_in_one_bucket, drawn_line},
     {"names of one hash", 256, 1024, name_of_one_hash, drawn_line},
-    {"8 variables", 8, 1024, short_name, signed_division},
-    {"256 variables", 256, 1024, middling_name, signed_division},
 };
 
-/* The first with a variable to flip, the first whose flips are timed beside plain ones, the first of other names, the
-   first of signed divisions alone. */
-enum { FLIPPABLE = 1, FLIPPED = 4, NAMES = 7, SIGNED = 12, INPUTS = sizeof inputs / sizeof *inputs };
+/* The first with a variable to flip, the first whose flips are timed beside plain ones, the first of other names. */
+enum { FLIPPABLE = 1, FLIPPED = 4, NAMES = 7, INPUTS = sizeof inputs / sizeof *inputs };
 
 static void report_each(size_t from, size_t to, void (*report_one)(const struct input *))
 {
@@ -910,9 +907,8 @@ static void report_checks(const char *title, size_t from, size_t to)
 static void report_all(void)
 {
     report_checks("input", 0, NAMES);
-    report_checks("256 names, 1024 lines", NAMES, SIGNED);
-    report_checks("1024 signed divisions", SIGNED, INPUTS);
-    report_each(FLIPPED, SIGNED, report_flips);
+    report_checks("256 names, 1024 lines", NAMES, INPUTS);
+    report_each(FLIPPED, INPUTS, report_flips);
     printf("%-26s %7s %7s %9s %9s %9s %9s %7s %7s %7s\n", "cleaning", "file B", "clean B", "read us",
            "clean us", "-O2 us", "-O3 us", "to read", "to -O2", "to -O3");
     report_each(0, NAMES, report_cleanings);

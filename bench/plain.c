@@ -315,17 +315,16 @@ static bool is_less_signed(uint64_t a, uint64_t b, unsigned width)
     return (int64_t)sign_extend(a, width) < (int64_t)sign_extend(b, width);
 }
 
-/* C divides as the format does, but for the least number by -1. */
+/* Rounds towards zero where the signs agree, away from zero where they differ. */
 static uint64_t divide_signed(uint64_t a, uint64_t b, unsigned width)
 {
-    int64_t dividend = (int64_t)sign_extend(a, width), divisor = (int64_t)sign_extend(b, width);
-    return divisor == -1 ? -a : (uint64_t)(dividend / divisor);
-}
-
-static uint64_t remainder_signed(uint64_t a, uint64_t b, unsigned width)
-{
-    int64_t dividend = (int64_t)sign_extend(a, width), divisor = (int64_t)sign_extend(b, width);
-    return divisor == -1 ? 0 : (uint64_t)(dividend % divisor);
+    bool a_negative = a >> (width - 1), b_negative = b >> (width - 1);
+    uint64_t a_size = a_negative ? -sign_extend(a, width) : a;
+    uint64_t b_size = b_negative ? -sign_extend(b, width) : b;
+    uint64_t quotient = a_size / b_size;
+    if (a_negative == b_negative)
+        return quotient;
+    return -(quotient + (a_size % b_size != 0));
 }
 
 static uint64_t shift_right_signed(uint64_t a, uint64_t amount, unsigned width)
@@ -361,7 +360,7 @@ static uint64_t apply(const struct line *line, uint64_t a, uint64_t b, uint64_t 
     case UDIV: return a / b;
     case SDIV: return divide_signed(a, b, width);
     case UREM: return a % b;
-    case SREM: return remainder_signed(a, b, width);
+    case SREM: return a - divide_signed(a, b, width) * b;
     case SHL: return b < width ? a << b : 0;
     case ASHR: return shift_right_signed(a, b, width);
     case LSHR: return b < width ? a >> b : 0;

@@ -11,13 +11,6 @@
  * must not overlap any other range of the same call: what happens then is
  * outside what is proved. The calls keep no state, so threads may make them at
  * the same time. Each needs some 60 KB of stack, spear_clean some 110 KB.
- *
- * Signed division (`/s`, `%s`) rounds towards zero, and a nonzero remainder has
- * the dividend's sign: -7 by 2 is -3, with -1 left. In versions from before
- * this rule (C-16) it was -4, with 1 left. Verdicts and results that are kept
- * from these, of a constraint file with `/s` or `%s`, must be made again by a
- * fresh check (spear_check_tables): no call finds them, a change renews only
- * the lines that name its variable, and its verdict goes by the whole table.
  */
 #ifndef SPEAR_H
 #define SPEAR_H

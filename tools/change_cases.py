@@ -68,7 +68,7 @@ from check_cases import MOST_VERDICTS, lengths_around, nearly
 from constraint_cases import MIXED, crs, mixed, with_crs
 from constraints import unmarked
 from indexes import Indexed
-from operator_vectors import SIGNED, edges, signed_readings
+from operator_vectors import edges
 from operators import DIVISIONS, OPERATORS
 
 
@@ -406,45 +406,6 @@ def crowded_runs():
     yield crowded_run(crowds.held(crowds.any_crowd(constraints.VARIABLES, range(3, 6)), (16,)), 20)
 
 
-# Signed division.
-
-
-def both_signs(width):
-    """Dividends and divisors of either sign, each with its quotient and its remainder put in behind it."""
-    declared = f"d a:i{width} b:i{width} q:i{width} r:i{width}"
-    run = accepted(f"v 1.0\n{declared}\nc q /s a b\nc r %s a b\n".encode(), [0, 2**width - 1, 0, 0])
-    for pair in random.sample(list(product(signed_readings(width), repeat=2)), min(4**width, 24)):
-        for variable, reading in enumerate(pair):
-            run.change(variable, reading % 2**width)
-        for variable in (2, 3):
-            run.change(variable, random.choice([0, *results_for(run, variable)]))
-    return run
-
-
-KEPT = b"v 1.0\nd a:i8 b:i8 q:i8 r:i8 x:i8\nc q /s a b\nc r %s a b\np ule x 9:i8\n"
-
-
-def kept_tables():
-    """Verdicts and results by another rounding, in which -7 by 2 is -4 with 1 left: no change finds them, and one
-    renews those of its own lines."""
-    run = accepted(KEPT, [249, 2, 252, 1, 0])
-    assert run.checked.overall == "violated 1", run.checked
-    for line, result in enumerate((252, 1)):
-        run.store("verdicts", line, 1)
-        run.store("results", line, result)
-    run.expect(("satisfied", 1, 0, 1), 4, 1)
-    run.expect(("violated 2", 1, 1, 0), 3, 1)
-    run.expect(("violated 1", 2, 1, 0), 0, 249)
-    run.expect(("violated 2", 1, 1, 1), 2, 253)
-    run.expect(("satisfied", 1, 1, 7), 3, 255)
-    return run
-
-
-def signed_runs():
-    yield from map(both_signs, SIGNED)
-    yield kept_tables()
-
-
 # The corpus.
 
 GROUPS = [whole_case, named_lines, decided_lines, divisors, edge_widths, bit_counts, lent_tables, short_whole]
@@ -453,7 +414,7 @@ GROUPS += [orders, first_contents, bare_files, faulty_constraints, sizes, each_o
 # Every refusal that a change or a building can give: by subject, the numbers.
 REFUSALS = {"constraint": {*range(1, 16)}, "values": {21, 24}, "verdicts": {21, 24}, "call": {18, 23}}
 REFUSALS |= {"starts": {21, 25}, "lists": {21, 25}, "results": {21}}
-MOST_STDIN = 2700000
+MOST_STDIN = 2650000
 
 
 def kind(found):
@@ -486,7 +447,6 @@ def main(folder):
     runs += [run for group in index_runs.GROUPS for run in group()]
     runs += crowded_runs()
     runs += [run for group in result_runs.GROUPS for run in group()]
-    runs += signed_runs()
     runs = list({run.stdin(): run for run in runs}.values())  # a file without LFs gets no CRs
     for run in runs:
         if run.model:

@@ -9,10 +9,8 @@ constraint file and of the answer and the entries of the lent value, verdict and
 The reply is six lines, or seven where the report has two: what the check answers, the three tables after it, the
 report, and the number.
 """
-import math
 import sys
 from collections import Counter, namedtuple
-from fractions import Fraction
 from itertools import product
 from pathlib import Path
 from random import Random
@@ -589,41 +587,6 @@ def random_results():
 RESULTS = [lent_results, known_results, most_results, random_results]
 
 
-# Signed division.
-
-
-def away_from_zero(exact):
-    return math.ceil(exact) if exact > 0 else math.floor(exact)
-
-
-def signed_file(op, width, pairs, rounded):
-    """A line for each dividend and divisor, with the output that a rounding of their quotient gives."""
-    lines = ["v 1.0"]
-    for a, b in pairs:
-        quotient = rounded(Fraction(a, b))
-        output = quotient if op == "/s" else a - quotient * b
-        lines.append(f"c {output % 2**width}:i{width} {op} {a % 2**width}:i{width} {b % 2**width}:i{width}")
-    return "\n".join(lines)
-
-
-def sign_pairs(width):
-    """Dividends and divisors of the same two signs."""
-    readings = operator_vectors.signed_readings(width)
-    for signs in product((False, True), repeat=2):
-        yield [pair for pair in product(readings, repeat=2) if pair[1] and (pair[0] < 0, pair[1] < 0) == signs]
-
-
-def signed_divisions():
-    """Lines that hold, then with what quotients rounded away from zero would give: where the signs differ, their
-    remainders have the divisor's sign."""
-    for op, width in product(("/s", "%s"), operator_vectors.SIGNED):
-        for pairs in filter(None, sign_pairs(width)):
-            yield accepted("satisfied", signed_file(op, width, pairs, math.trunc), "s SATISFIABLE\n", 0, len(pairs))
-            case = sized(signed_file(op, width, pairs, away_from_zero).encode(), b"s SATISFIABLE\n")
-            assert checks.check(*case).verdicts == [int(a % b == 0) for a, b in pairs]
-            yield case
-
-
 # The corpus.
 
 GROUPS = [whole_case, table_cases, decided_lines, constraint_operators, predicate_operators, neighbours]
@@ -633,14 +596,14 @@ GROUPS += [most_variables, most_lines, names_and_widths, random_checks]
 # Every answer that the check can give: the numbers by subject, and the verdicts.
 REFUSALS = {subject: numbers for (kind, subject), numbers in answer_cases.REFUSALS.items() if kind == "r"}
 REFUSALS["verdicts"] = REFUSALS["results"] = {21}
-MOST_STDIN = 1600000
+MOST_STDIN = 1500000
 
 
 def cases():
     found = list(dict.fromkeys(case for group in GROUPS for case in group()))
     with_line_ends = [case for group in LINE_ENDS for case in group()]
     again = repeated(lambda case: checks.check(*case), found)
-    others = (case for group in [*CROWDS, *RESULTS, signed_divisions] for case in group())
+    others = (case for group in CROWDS + RESULTS for case in group())
     return list(dict.fromkeys([*found, *with_line_ends, *again, *others]))
 
 

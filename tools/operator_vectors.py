@@ -18,7 +18,6 @@ from operators import CASES, DIVISIONS, OPERATORS, Word
 WIDTHS = (1, 2, 7, 8, 9, 16, 31, 32, 33, 63, 64)
 WHOLE = (1, 2, 8, 64)  # widths at which every combination of edge values is tried
 SWEPT = (33, 64)  # widths at which every shift amount is tried
-SIGNED = (1, 2, 8, 63, 64)  # widths at which dividends and divisors of either sign are tried
 MOST = 2**64 - 1
 random = Random(1)
 
@@ -81,20 +80,6 @@ def divisions():
     for w in WIDTHS:
         yield numbers(w, (w, min(2**w, MOST)), (w, 0))
         yield numbers(w - 1, any_word(w), (w, 0))
-
-
-def signed_readings(width):
-    """Signed numbers of either sign, small and extreme."""
-    half = 2 ** (width - 1)
-    readings = (-half, 1 - half, -7, -2, -1, 0, 1, 2, 7, half - 2, half - 1)
-    return [reading for reading in dict.fromkeys(readings) if -half <= reading < half]
-
-
-def signs():
-    """Every two of them, as dividend and divisor."""
-    for w in SIGNED:
-        for pair in product(signed_readings(w), repeat=2):
-            yield numbers(w, *((w, reading % 2**w) for reading in pair))
 
 
 def shifts():
@@ -167,7 +152,6 @@ def vectors():
             found += faults(vector)
         for vector in dict.fromkeys(found):
             yield op, vector
-    yield from product(DIVISIONS, signs())
 
 
 def line(op, vector):

@@ -1,16 +1,11 @@
 #!/usr/bin/env python3
-"""The 31 operators of document 01, "Types and meanings", with document 02's signed division, worked out apart from
-the Rattle code.
+"""The 31 operators of document 01, "Types and meanings", worked out apart from the Rattle code.
 
 apply(op, k, a, b, c) gives what an operator used by itself answers for a result of k bits: a number,
-"zero divisor", or "refused NUMBER call 0". `--self-test` checks the document's table cases W1 to W12, of which
-document 02 changes W9.
+"zero divisor", or "refused NUMBER call 0". `--self-test` checks the document's table cases W1 to W12.
 """
-import math
 import sys
 from collections import namedtuple
-from fractions import Fraction
-from itertools import product
 
 Word = namedtuple("Word", "width value")
 
@@ -77,8 +72,11 @@ def by_flags(formula):
 
 
 def signed_quotient(a, b):
-    """The exact quotient, rounded towards zero for all signs."""
-    return math.trunc(Fraction(a, b))
+    """Def. 21: towards zero where the signs agree or a is 0, away from zero where they differ."""
+    quotient, remainder = divmod(abs(a), abs(b))
+    if a * b >= 0:
+        return quotient
+    return -(quotient + 1 if remainder else quotient)
 
 
 def sdiv(k, a, b):
@@ -169,21 +167,12 @@ CASES = [
     ("-", 8, (8, 1), (8, 128), 129),
     ("slt", 1, (8, 128), (8, 127), 1),
     ("sge", 1, (1, 0), (1, 1), 1),
-    ("/s", 8, (8, 249), (8, 2), 253),
-    ("%s", 8, (8, 249), (8, 2), 255),
+    ("/s", 8, (8, 249), (8, 2), 252),
+    ("%s", 8, (8, 249), (8, 2), 1),
     ("/s", 8, (8, 128), (8, 255), 128),
     ("<<", 8, (8, 1), (8, 8), 0),
     (">>a", 8, (8, 128), (8, 200), 255),
 ]
-
-
-def assert_remainder(k, a, b):
-    """02: a nonzero signed remainder has the dividend's sign. It is smaller in size than the divisor, and the
-    quotient times the divisor, with it added, is the dividend."""
-    quotient, rest = (Word(k, apply(op, k, a, b)) for op in ("/s", "%s"))
-    assert (quotient.value * b.value + rest.value - a.value) % 2**k == 0, (a, b)
-    assert abs(signed(rest)) < abs(signed(b)), (a, b)
-    assert rest.value == 0 or (signed(rest) < 0) == (signed(a) < 0), (a, b)
 
 
 def self_test():
@@ -191,13 +180,10 @@ def self_test():
     for op, k, *operands, result in CASES:
         answer = apply(op, k, *(Word(*operand) for operand in operands))
         assert answer == result, (op, k, operands, answer)
-    for k in range(1, 6):
-        for a, b in product(range(2**k), range(1, 2**k)):
-            assert_remainder(k, Word(k, a), Word(k, b))
 
 
 if __name__ == "__main__":
     if sys.argv[1:] != ["--self-test"]:
         sys.exit(f"usage: {sys.argv[0]} --self-test")
     self_test()
-    print("W1 to W12 hold, and so do the rules of signed remainders below 6 bits")
+    print("W1 to W12 hold")

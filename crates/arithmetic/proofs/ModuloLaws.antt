@@ -4,12 +4,13 @@ use Prim.Native.Nat.{ℕ, zero, suc, ◌+◌, ◌-◌, ◌*◌, ◌/◌, ◌%◌
 use native.Mathlib.Decide.{dec_lt}
 use native.Mathlib.Nat.{div-add-mod', mod-eq_of_lt, mod-lt, mod-mod}
 use native.Mathlib.Omega.{arith}
-use lib.IntN.{ℤ, pos, negsuc, neg_ℤ, sub_ℕ, ◌+ℤ◌, ◌*ℤ◌}
+use lib.IntN.{ℤ, pos, negsuc, neg_ℤ, sub_ℕ, ◌+ℤ◌, ◌-ℤ◌, ◌*ℤ◌}
 use lib.Pow.{pow_pos, suc_ones}
 use borrow.Author.Tests.{lt-ltb, le-ltb}
-use Rattle.arithmetic.specs.declared.Arithmetic.TheVariants.{Add, Mul}
-use Rattle.arithmetic.specs.Signed.{signed, modulo}
-use Rattle.arithmetic.specs.Arithmetic.{computed}
+use Rattle.arithmetic.specs.declared.Arithmetic.TheVariants.{Sub, Mul}
+use Rattle.arithmetic.specs.declared.Division.TheVariants.{Sdiv, Srem}
+use Rattle.arithmetic.specs.Signed.{signed, modulo, quotient}
+use Rattle.arithmetic.specs.Arithmetic.{computed, divided}
 use Rattle.arithmetic.proofs.Powers.{mod_cong}
 use Rattle.arithmetic.proofs.SignedLaws.{signed_low, signed_high}
 
@@ -61,6 +62,11 @@ module _ (m : ℕ) where
   lift_add (negsuc a) (pos b) = lift_sub b (suc a) ∙ ap (λ (z : ℕ). z % suc m) (omega arith)
   lift_add (negsuc a) (negsuc b) = ap (λ (z : ℕ). z % suc m) (omega arith)
 
+  lift_minus : (x : ℤ) → lift (neg_ℤ x) % suc m ≡ (lift x * m) % suc m
+  unfolding lift
+  lift_minus (pos a) = ap (λ (z : ℕ). z % suc m) (lift_neg a)
+  lift_minus (negsuc a) = sym (square (suc a))
+
   -- the remainder of a lift, as `modulo` has it
   lift_mod : (a : ℕ) → (suc a * m) % suc m ≡ m - a % suc m
   lift_mod a =
@@ -85,19 +91,31 @@ at_pow k x y f = subst (λ (n : ℕ). x (2 ^ k - 1) % n ≡ y (2 ^ k - 1) % n) (
 pub modulo_lt : (k : ℕ) (z : ℤ) → modulo k z < 2 ^ k
 modulo_lt k z = rw (modulo_lift k z) (mod-lt (lift (2 ^ k - 1) z) (pow_pos k))
 
-pub modulo-mul : (k : ℕ) (x y : ℤ) → modulo k (x *ℤ y) ≡ computed Mul k (modulo k x) (modulo k y)
+modulo-mul : (k : ℕ) (x y : ℤ) → modulo k (x *ℤ y) ≡ computed Mul k (modulo k x) (modulo k y)
 unfolding computed
 modulo-mul k x y =
     modulo_lift k (x *ℤ y)
     ∙ at_pow k (λ m. lift m (x *ℤ y)) (λ m. lift m x * lift m y) (λ m. lift_mul m x y)
     ∙ cong_mul (2 ^ k) (lift (2 ^ k - 1) x) (modulo k x) (lift (2 ^ k - 1) y) (modulo k y) (lift_modulo k x) (lift_modulo k y)
 
-pub modulo-add : (k : ℕ) (x y : ℤ) → modulo k (x +ℤ y) ≡ computed Add k (modulo k x) (modulo k y)
+modulo-sub : (k : ℕ) (x y : ℤ) → modulo k (x -ℤ y) ≡ computed Sub k (modulo k x) (modulo k y)
 unfolding computed
-modulo-add k x y =
-    modulo_lift k (x +ℤ y)
-    ∙ at_pow k (λ m. lift m (x +ℤ y)) (λ m. lift m x + lift m y) (λ m. lift_add m x y)
-    ∙ cong_add (2 ^ k) (lift (2 ^ k - 1) x) (modulo k x) (lift (2 ^ k - 1) y) (modulo k y) (lift_modulo k x) (lift_modulo k y)
+modulo-sub k x y =
+    modulo_lift k (x -ℤ y)
+    ∙ at_pow k (λ m. lift m (x -ℤ y)) (λ m. lift m x + lift m (neg_ℤ y)) (λ m. lift_add m x (neg_ℤ y))
+    ∙ cong_add (2 ^ k) (lift (2 ^ k - 1) x) (modulo k x) (lift (2 ^ k - 1) (neg_ℤ y)) (2 ^ k - modulo k y) (lift_modulo k x) negated
+    ∙ ap (λ (n : ℕ). n % 2 ^ k) (omega (arith, modulo_lt k y))
+  where
+    other : (modulo k y * (2 ^ k - 1)) % 2 ^ k ≡ (2 ^ k - modulo k y) % 2 ^ k
+    other =
+        let e : 2 ^ k ≡ 2 ^ k - 1 + 1 = omega (arith, pow_pos k) in
+        mod_cong (2 ^ k) 1 (modulo k y) (modulo k y * (2 ^ k - 1)) (2 ^ k - modulo k y) (omega (arith, modulo_lt k y, ap (λ (n : ℕ). modulo k y * n) e))
+
+    negated : lift (2 ^ k - 1) (neg_ℤ y) % 2 ^ k ≡ (2 ^ k - modulo k y) % 2 ^ k
+    negated =
+        at_pow k (λ m. lift m (neg_ℤ y)) (λ m. lift m y * m) (λ m. lift_minus m y)
+        ∙ cong_mul (2 ^ k) (lift (2 ^ k - 1) y) (modulo k y) (2 ^ k - 1) (2 ^ k - 1) (lift_modulo k y) refl
+        ∙ other
 
 -- the signed reading, back to a number of k bits
 pub modulo-signed : (k a : ℕ) → a < 2 ^ k → modulo k (signed k a) ≡ a
@@ -106,3 +124,11 @@ modulo-signed k a h = elim (dec_lt a (2 ^ (k - 1))) [
   | yes p ↦ rw (signed_low k a p) (mod-eq_of_lt h)
   | no p ↦ let l : 2 ^ k - suc a < 2 ^ k = omega arith in rw (signed_high k a (omega arith) h, mod-eq_of_lt l) (omega arith)
 ]
+
+-- the signed remainder by operators on k bits
+pub srem_is : (k a b : ℕ) → a < 2 ^ k → b < 2 ^ k → divided Srem k a b ≡ computed Sub k a (computed Mul k (divided Sdiv k a b) b)
+unfolding divided
+srem_is k a b ha hb =
+    let q = quotient (signed k a) (signed k b) in
+    modulo-sub k (signed k a) (q *ℤ signed k b)
+    ∙ ap₂ (computed Sub k) (modulo-signed k a ha) (modulo-mul k q (signed k b) ∙ ap (computed Mul k (modulo k q)) (modulo-signed k b hb))

@@ -1,7 +1,7 @@
 // The claims: each is the contract of an empty function, so that a check lists it by name.
 ghost use Rattle.arithmetic.specs.Cases.{TableCases};
 ghost use Rattle.arithmetic.specs.Numbering.{NumbersGiveBack};
-ghost use Rattle.arithmetic.specs.Claims.{Orders, ResultsFit, SignedReading, UnsignedDivisions, SignedDivisions, LargeAmounts};
+ghost use Rattle.arithmetic.specs.Claims.{Orders, ResultsFit, SignedReading, LargeAmounts};
 
 // The comparisons by flags are plain order, at every width.
 pub fn orders()
@@ -16,16 +16,6 @@ pub fn results_fit()
 // The signed reading lies from -2^(k-1) to 2^(k-1)-1.
 pub fn signed_reading()
     ensures { SignedReading }
-{}
-
-// `/u` and `%u` are the quotient cut towards zero and its remainder.
-pub fn unsigned_divisions()
-    ensures { UnsignedDivisions }
-{}
-
-// `/s` and `%s` are the same by the signed reading; a remainder has the dividend's sign.
-pub fn signed_divisions()
-    ensures { SignedDivisions }
 {}
 
 // A shift by the width or more leaves nothing, or the top bit everywhere.

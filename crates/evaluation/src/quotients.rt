@@ -1,7 +1,7 @@
 // Quotients and remainders.
-ghost use Rattle.std.specs.Prelude.{◌≡◌, ◌<◌, pos, neg_ℤ, if◌then◌else◌, unsigned_abs};
+ghost use Rattle.std.specs.Prelude.{◌≡◌, ◌<◌, pos, neg_ℤ, unsigned_abs};
 ghost use Rattle.arithmetic.specs.declared.Division.TheVariants.{Sdiv, Srem};
-ghost use Rattle.arithmetic.specs.Signed.{signed, modulo};
+ghost use Rattle.arithmetic.specs.Signed.{signed, modulo, ceiling};
 ghost use Rattle.arithmetic.specs.Arithmetic.{divided};
 ghost use Rattle.arithmetic.specs.Evaluable.{NumberOfBits, NumbersOfBits};
 
@@ -17,16 +17,20 @@ fn magnitude(k: u64, a: u64) -> u64
     if a < top(k) { a } else { mask(k) - a + 1 }
 }
 
-// n, or if it is not to be positive -n modulo 2^k.
-fn with_sign(k: u64, positive: bool, n: u64) -> u64
-    requires { NumberOfBits k n }
-    ensures { result ≡ modulo k (if positive then pos n else neg_ℤ (pos n)) }
+// -q modulo 2^k.
+fn negative(k: u64, q: u64) -> u64
+    requires { NumberOfBits k q }
+    ensures { result ≡ modulo k (neg_ℤ (pos q)) }
 {
-    if positive {
-        n
-    } else {
-        compute(Arithmetic::Sub, k, 0, n)
-    }
+    if q == 0 { 0 } else { mask(k) - q + 1 }
+}
+
+// a / b, rounded up.
+fn rounded_up(a: u64, b: u64) -> u64
+    requires { 0 < b }
+    ensures { result ≡ ceiling a b }
+{
+    if a == 0 { 0 } else { (a - 1) / b + 1 }
 }
 
 fn signed_quotient(k: u64, a: u64, b: u64) -> u64
@@ -34,14 +38,21 @@ fn signed_quotient(k: u64, a: u64, b: u64) -> u64
     ensures { result ≡ divided Sdiv k a b }
 {
     let t = top(k);
-    with_sign(k, (a < t) == (b < t), magnitude(k, a) / magnitude(k, b))
+    let x = magnitude(k, a);
+    let y = magnitude(k, b);
+    if (a < t) == (b < t) {
+        x / y
+    } else {
+        negative(k, rounded_up(x, y))
+    }
 }
 
 fn signed_remainder(k: u64, a: u64, b: u64) -> u64
     requires { NumbersOfBits k a b × (0 < b) }
     ensures { result ≡ divided Srem k a b }
 {
-    with_sign(k, a < top(k), magnitude(k, a) % magnitude(k, b))
+    let q = signed_quotient(k, a, b);
+    compute(Arithmetic::Sub, k, a, compute(Arithmetic::Mul, k, q, b))
 }
 
 pub(crate) fn divide(o: Division, k: u64, a: u64, b: u64) -> u64

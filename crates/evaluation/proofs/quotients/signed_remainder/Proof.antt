@@ -1,38 +1,34 @@
-use native.Mathlib.Nat.{mod-le}
-use Rattle.arithmetic.proofs.SignedLaws.{magnitude_pos, within_magnitude}
-use Rattle.arithmetic.proofs.DivisionLaws.{srem_is}
-use Rattle.std.proofs.Common.{rules}
+use Rattle.std.proofs.Common.{◌*◌, sym, mod-lt, pow_pos, rules}
+use Rattle.arithmetic.specs.Arithmetic.{computed, divided}
+use Rattle.arithmetic.proofs.ModuloLaws.{modulo_lt, srem_is}
 use Rattle.evaluation.proofs.quotients.signed_remainder.Statement.{statement}
 use Rattle.evaluation.proofs.quotients.signed_remainder.Tie as tie
 
-top-requires : tie.Need-top-requires
-top-requires c κs = search rules
+signed-quotient-requires : tie.Need-signed-quotient-requires
+signed-quotient-requires c κs = search rules
 
-magnitude-requires : tie.Need-magnitude-requires
-magnitude-requires c κs = search rules
+compute-requires : tie.Need-compute-requires
+unfolding divided
+compute-requires c κs =
+    let s = c.before in
+    record { least = s.requires.0.least; most = s.requires.0.most; bound = rw c.signed_quotient.ensures (modulo_lt s.args.k _); bound₂ = s.requires.0.bound₂ }
 
-magnitude-requires-2 : tie.Need-magnitude-requires-2
-magnitude-requires-2 c κs = search rules
-
-rem-with-sign : tie.Need-nonzero-rem-with-sign
-rem-with-sign c =
-    let s = c.before.before.before in
-    rw c.magnitude2.ensures (magnitude_pos s.args.k s.args.b s.requires.0.bound₂ s.requires.1)
-
-with-sign-requires : tie.Need-with-sign-requires
-with-sign-requires c κs =
-    let s = c.before.before.before in
+compute-requires-2 : tie.Need-compute-requires-2
+unfolding computed
+compute-requires-2 c κs =
+    let s = c.before.before in
     record {
       least = s.requires.0.least;
       most = s.requires.0.most;
-      bound = within_magnitude s.args.k s.args.a _ s.requires.0.least s.requires.0.bound (rw c.before.magnitude.ensures (mod-le _ _));
+      bound = s.requires.0.bound;
+      bound₂ = rw c.compute.ensures (mod-lt (c.before.signed_quotient.result * s.args.b) (pow_pos s.args.k));
     }
 
 returns : tie.Need-returns
 returns c =
-    let s = c.before.before.before.before in
-    rw (c.with-sign.ensures, c.before.before.before.top.ensures, c.before.before.magnitude.ensures, c.before.magnitude2.ensures) (srem_is s.args.k s.args.a s.args.b s.requires.0.bound s.requires.0.bound₂)
+    let s = c.before.before.before in
+    rw (c.compute2.ensures, c.before.compute.ensures, c.before.before.signed_quotient.ensures) (sym (srem_is s.args.k s.args.a s.args.b s.requires.0.bound s.requires.0.bound₂))
 
 pub signed_remainder_spec : {M : Type 1} → statement M
 signed_remainder_spec =
-    tie.close (tie.spec top-requires magnitude-requires magnitude-requires-2 rem-with-sign with-sign-requires returns)
+    tie.close (tie.spec signed-quotient-requires compute-requires compute-requires-2 returns)
