@@ -1,4 +1,6 @@
 // Answer files: reading one into a lent table of values.
+#![tactic(auto)]
+
 ghost use Rattle.std.specs.Prelude.{◌≡◌};
 ghost use Rattle.answer.specs.Call.{read_outcome};
 
@@ -16,7 +18,7 @@ mod solutions;
 pub mod words;
 
 // What a solution word says.
-#[derive(Drop)]
+#[derive(Clone, Copy)]
 pub enum Solution {
     Satisfiable,
     // UNSATISFIABLE or UNKNOWN.
@@ -25,7 +27,7 @@ pub enum Solution {
 }
 
 // The kind of a line that is not blank.
-#[derive(Drop)]
+#[derive(Clone, Copy)]
 pub enum AnswerLine {
     OfComment,
     OfSolution,
@@ -34,27 +36,27 @@ pub enum AnswerLine {
 }
 
 // The number of a variable, its value and where the token stops, or the number of the token's refusal.
-#[derive(Drop)]
+#[derive(Clone, Copy)]
 pub enum Setting {
     Set(usize, u64, usize),
     Faulty(u8),
 }
 
 // After a line: whether the `s` line was read.
-#[derive(Drop)]
+#[derive(Clone, Copy)]
 pub enum AnswerProgress {
     Next(bool),
     Stop(Refusal),
 }
 
-#[derive(Drop)]
+#[derive(Clone, Copy)]
 pub enum AnswerRead {
     Complete,
     Fault(Refusal),
 }
 
 // How many values were stored.
-#[derive(Drop)]
+#[derive(Clone, Copy)]
 pub enum ReadReply {
     Read(usize),
     Refused(Refusal),

@@ -3,6 +3,8 @@
 //
 // A case is a line of 36 bytes with `r` or `w` and three numbers of eight hexadecimal digits, and the bytes that they count:
 // of `r` a constraint file and an answer, then the entries of the table; of `w` a constraint file, the values in 16 digits each, then the bytes of the room.
+#![tactic(auto)]
+
 use answer::ReadReply;
 use libc::STDOUT_FILENO;
 use printing::WriteReply;

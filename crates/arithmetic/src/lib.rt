@@ -1,11 +1,13 @@
 // The operators on values of K bits: their types, rules, numbers and meanings. No function here has a `requires`.
+#![tactic(auto)]
+
 pub mod bits;
 pub mod claims;
 pub mod numbering;
 pub mod rules;
 
 // The 31 operators, by kind; operators of one kind share their type rule.
-#[derive(Drop)]
+#[derive(Clone, Copy)]
 pub enum Operator {
     Combine(Bitwise),
     Not,
@@ -22,7 +24,7 @@ pub enum Operator {
 }
 
 // & | ^
-#[derive(Drop)]
+#[derive(Clone, Copy)]
 pub enum Bitwise {
     And,
     Or,
@@ -30,7 +32,7 @@ pub enum Bitwise {
 }
 
 // = /= ule uge ult ugt sle sge slt sgt
-#[derive(Drop)]
+#[derive(Clone, Copy)]
 pub enum Comparison {
     Equal,
     NotEqual,
@@ -45,7 +47,7 @@ pub enum Comparison {
 }
 
 // + - *
-#[derive(Drop)]
+#[derive(Clone, Copy)]
 pub enum Arithmetic {
     Add,
     Sub,
@@ -53,7 +55,7 @@ pub enum Arithmetic {
 }
 
 // /u /s %u %s
-#[derive(Drop)]
+#[derive(Clone, Copy)]
 pub enum Division {
     Udiv,
     Sdiv,
@@ -62,7 +64,7 @@ pub enum Division {
 }
 
 // << >>a >>l
-#[derive(Drop)]
+#[derive(Clone, Copy)]
 pub enum Shift {
     Shl,
     Ashr,
@@ -70,14 +72,14 @@ pub enum Shift {
 }
 
 // sext zext
-#[derive(Drop)]
+#[derive(Clone, Copy)]
 pub enum Extension {
     Sext,
     Zext,
 }
 
 // A value of `width` bits.
-#[derive(Drop)]
+#[derive(Clone, Copy)]
 pub struct Word {
     pub width: u64,
     pub value: u64,

@@ -33,7 +33,7 @@ const NUMBER: usize = 8;
 
 const LONG_NUMBER: usize = 16;
 
-#[derive(Drop)]
+#[derive(Clone, Copy)]
 struct Command {
     letter: u8,
     first: usize,
@@ -44,7 +44,7 @@ struct Command {
 }
 
 // How much of an index is lent.
-#[derive(Drop)]
+#[derive(Clone, Copy)]
 pub struct Lent {
     pub starts: usize,
     pub lists: usize,

@@ -4,6 +4,8 @@
 // A run is a line of 47 bytes with `r` and five numbers of eight hexadecimal digits, and the bytes of two files:
 // the numbers are the lengths of the constraint file and of the answer, and the entries of the tables of values, verdicts and results.
 // Then commands, up to one that ends the run: commands.rt has them.
+#![tactic(auto)]
+
 ghost use Rattle.reporting.specs.CaseRooms.{Fitted};
 
 use commands::{obey_all, print_lent};

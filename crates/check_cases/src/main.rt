@@ -3,6 +3,8 @@
 //
 // A case is a line of 47 bytes with `k` and five numbers of eight hexadecimal digits, and the bytes of two files:
 // the numbers are the lengths of the constraint file and of the answer, and the entries of the tables of values, verdicts and results.
+#![tactic(auto)]
+
 ghost use Rattle.reporting.specs.CaseRooms.{Fitted};
 
 use libc::STDOUT_FILENO;

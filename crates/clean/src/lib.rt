@@ -1,4 +1,6 @@
 // The clean spelling of a constraint file.
+#![tactic(auto)]
+
 ghost use Rattle.std.specs.Prelude.{◌≡◌, ◌≤◌, length};
 ghost use Rattle.edition.specs.Edition.{max_file_bytes};
 ghost use Rattle.store.specs.Tables.{store_of, StoreSized};

@@ -2,6 +2,8 @@
 // tools/clean_cases.py writes the cases and, by an evaluator of its own, the answers.
 //
 // A case is a line of 18 bytes with two numbers of eight hexadecimal digits, the length of a constraint file and the bytes of the room, and then the file.
+#![tactic(auto)]
+
 use clean::clean;
 use libc::STDOUT_FILENO;
 use printing::WriteReply;

@@ -1,2 +1,4 @@
 // The clean text of a constraint file.
+#![tactic(auto)]
+
 pub mod claims;

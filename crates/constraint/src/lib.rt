@@ -1,11 +1,13 @@
 // What a constraint file says, and how it is read: the definitions that the reader meets.
+#![tactic(auto)]
+
 use arithmetic::{Operator, Word};
 
 pub mod claims;
 pub mod refusals;
 
 // Operands and lines as the definitions see them; in code they stand in the tables of `store`.
-#[derive(Drop)]
+#[derive(Clone, Copy)]
 pub enum Operand {
     // None: the output of a `p` line, and what an operator does not take.
     Absent,
@@ -14,7 +16,7 @@ pub enum Operand {
     Const(Word),
 }
 
-#[derive(Drop)]
+#[derive(Clone, Copy)]
 pub struct Operands {
     pub first: Operand,
     pub second: Operand,
@@ -22,7 +24,7 @@ pub struct Operands {
 }
 
 // A `c` or `p` line.
-#[derive(Drop)]
+#[derive(Clone, Copy)]
 pub struct Line {
     pub output: Operand,
     pub operator: Operator,
@@ -30,7 +32,7 @@ pub struct Line {
 }
 
 // The kind of a line that is not blank.
-#[derive(Drop)]
+#[derive(Clone, Copy)]
 pub enum Kind {
     Skipped,
     OfVersion,
@@ -41,7 +43,7 @@ pub enum Kind {
 }
 
 // The forms of a line that must hold: `c`, which has an output, and `p`, which has none.
-#[derive(Drop)]
+#[derive(Clone, Copy)]
 pub enum Form {
     WithOutput,
     Predicate,

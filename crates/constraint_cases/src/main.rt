@@ -2,6 +2,8 @@
 // tools/constraint_cases.py writes the files and, by a reader of its own, the answers.
 //
 // Before each file stands its length: eight hexadecimal digits and a line end.
+#![tactic(auto)]
+
 use libc::{STDIN_FILENO, STDOUT_FILENO};
 use reader::{Counts, Inspected};
 

@@ -1,4 +1,6 @@
 // The editions of the format, and the limits that belong to them.
+#![tactic(auto)]
+
 ghost use Rattle.std.specs.Prelude.{◌≡◌};
 ghost use Rattle.edition.specs.Edition.{edition10, limits as limitsOf, is_width};
 ghost use Rattle.edition.specs.Word.{word_bits};
@@ -14,14 +16,14 @@ pub fn word_bits() -> u64
 }
 
 // A version of the format: `v MAJOR.MINOR`.
-#[derive(Drop)]
+#[derive(Clone, Copy)]
 pub struct Edition {
     pub major: u64,
     pub minor: u64,
 }
 
 // The most bytes of a file, variables, lines of kind `c` or `p`, bytes of a name, and bits of a value.
-#[derive(Drop)]
+#[derive(Clone, Copy)]
 pub struct Limits {
     pub file: usize,
     pub variables: usize,

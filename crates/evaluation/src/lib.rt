@@ -1,4 +1,6 @@
 // The value of an operator whose operands keep its rules. For callers that have shown them to hold.
+#![tactic(auto)]
+
 ghost use Rattle.std.specs.Prelude.{◌≡◌, if◌then◌else◌, nat_eq};
 ghost use Rattle.arithmetic.specs.Meaning.{truth as truth_of, value_of};
 ghost use Rattle.arithmetic.specs.Evaluable.{Evaluable};
@@ -22,7 +24,7 @@ mod sums;
 mod widths;
 
 // What operands that keep their rules come to.
-#[derive(Drop)]
+#[derive(Clone, Copy)]
 pub enum Evaluated {
     Value(u64),
     ZeroDivisor,

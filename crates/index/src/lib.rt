@@ -1,4 +1,6 @@
 // The index of a constraint file: which lines name a variable.
+#![tactic(auto)]
+
 ghost use Rattle.std.specs.Prelude.{◌≡◌};
 ghost use Rattle.index.specs.Index.{index_outcome};
 
@@ -15,14 +17,14 @@ pub mod fitting;
 pub mod naming;
 
 // How many lines an index that is built lists in all.
-#[derive(Drop)]
+#[derive(Clone, Copy)]
 pub enum IndexReply {
     Indexed(usize),
     Refused(Refusal),
 }
 
 // What of an index does not fit a file.
-#[derive(Drop)]
+#[derive(Clone, Copy)]
 pub enum IndexFault {
     NoFault,
     OfStarts,
@@ -30,7 +32,7 @@ pub enum IndexFault {
 }
 
 // The variables that a line names, each once; where it names fewer than four, `naming::NONE` stands instead.
-#[derive(Drop)]
+#[derive(Clone, Copy)]
 pub struct LineVariables {
     pub output: usize,
     pub first: usize,

@@ -1,11 +1,13 @@
 // The verdict on a line, and the overall verdict. Nothing here reads text.
+#![tactic(auto)]
+
 pub mod claims;
 pub mod in_use;
 pub mod lines;
 pub mod verdicts;
 
 // A line's verdict, and its result, 0 where there is none.
-#[derive(Drop)]
+#[derive(Clone, Copy)]
 pub struct Judged {
     pub verdict: u8,
     pub result: u64,
@@ -20,7 +22,7 @@ impl Judged {
 }
 
 // The overall verdict, with the first line that decides it, from 1.
-#[derive(Drop)]
+#[derive(Clone, Copy)]
 pub enum Overall {
     Satisfied,
     Violated(usize),

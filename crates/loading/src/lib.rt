@@ -1,4 +1,6 @@
 // Reading the files that a program's arguments name.
+#![tactic(auto)]
+
 ghost use Rattle.io.specs.Counts.{IsPrefixLen};
 ghost use Rattle.loading.specs.Loading.{Seen};
 

@@ -1,5 +1,7 @@
 // Prints, for each of its arguments, how many bytes of the file are read, and the report on one answer to it as a constraint file.
 // tools/loading_cases.py writes the files, the arguments and, by an evaluator of its own, what is printed.
+#![tactic(auto)]
+
 use libc::STDOUT_FILENO;
 use loading::{FILE_ROOM, load};
 use reporting::print_count;

@@ -1,4 +1,6 @@
 // The change of a single value, with and without an index, and runs of changes.
+#![tactic(auto)]
+
 use judge::Overall;
 use refusal::Refusal;
 
@@ -9,7 +11,7 @@ mod renewing;
 pub mod runs;
 
 // What a change did: the overall verdict by the table, how many lines it concerned, how many verdicts became different, and how many bits of the value.
-#[derive(Drop)]
+#[derive(Clone, Copy)]
 pub struct Effect {
     pub overall: Overall,
     pub named: usize,
@@ -17,14 +19,14 @@ pub struct Effect {
     pub bits: u64,
 }
 
-#[derive(Drop)]
+#[derive(Clone, Copy)]
 pub enum ChangeReply {
     Changed(Effect),
     Refused(Refusal),
 }
 
 // How many lines were renewed, and how many verdicts became different.
-#[derive(Drop)]
+#[derive(Clone, Copy)]
 pub struct Renewal {
     pub named: usize,
     pub altered: usize,

@@ -1,4 +1,6 @@
 // An operator used by itself, with nothing of files. The register simulator uses this crate, with the types of `arithmetic`.
+#![tactic(auto)]
+
 ghost use Rattle.std.specs.Prelude.{◌≡◌};
 ghost use Rattle.operator.specs.declared.Applied.TheVariants.{Refused};
 ghost use Rattle.operator.specs.Apply.{of_call, apply_outcome};
@@ -9,7 +11,7 @@ use evaluation::{Evaluated, evaluate};
 use refusal::{Refusal, Subject};
 
 // What an operator used by itself answers.
-#[derive(Drop)]
+#[derive(Clone, Copy)]
 pub enum Applied {
     Value(u64),
     ZeroDivisor,

@@ -3,6 +3,8 @@
 //
 // A vector has a fixed length and is hexadecimal: the operator's number, the result width, and the
 // operands, as in `10 08 08:0000000000000001 08:0000000000000080 00:0000000000000000`.
+#![tactic(auto)]
+
 ghost use Rattle.std.specs.Prelude.{◌+◌, ◌≤◌};
 
 use arithmetic::Word;

@@ -1,4 +1,6 @@
 // Text put into a lent room at a place: bytes and numbers. Each function answers where its text ends.
+#![tactic(auto)]
+
 ghost use Rattle.std.specs.Prelude.{◌≡◌, [], ◌∷◌, ◌+◌, ◌<◌, ◌≤◌, length};
 ghost use Rattle.printing.specs.Digits.{digits, counted};
 ghost use Rattle.printing.specs.Room.{Put};
@@ -10,7 +12,7 @@ pub mod parts;
 pub mod refusals;
 
 // What a writer answers: how long its text is, or a refusal.
-#[derive(Drop)]
+#[derive(Clone, Copy)]
 pub enum WriteReply {
     Written(usize),
     Refused(Refusal),

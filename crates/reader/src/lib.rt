@@ -1,4 +1,6 @@
 // Reading a constraint file into tables.
+#![tactic(auto)]
+
 ghost use Rattle.std.specs.Prelude.{◌≡◌};
 ghost use Rattle.reader.specs.Inspect.{inspect_outcome};
 
@@ -12,13 +14,13 @@ pub mod claims;
 pub mod reading;
 
 // How many variables and lines a file has.
-#[derive(Drop)]
+#[derive(Clone, Copy)]
 pub struct Counts {
     pub variables: usize,
     pub lines: usize,
 }
 
-#[derive(Drop)]
+#[derive(Clone, Copy)]
 pub enum Inspected {
     Sound(Counts),
     Refused(Refusal),

@@ -1,11 +1,13 @@
 // A refusal: its number, what it speaks of, and the position there.
+#![tactic(auto)]
+
 ghost use Rattle.std.specs.Prelude.{◌≡◌};
 ghost use Rattle.refusal.specs.declared.Gate.TheVariants.{Bar};
 ghost use Rattle.refusal.specs.Result.{refusal as refusalOf};
 ghost use Rattle.refusal.specs.SubjectWords.{subject_word, label};
 
 // What a refusal speaks of.
-#[derive(Drop)]
+#[derive(Clone, Copy)]
 pub enum Subject {
     Constraint,
     Answer,
@@ -18,7 +20,7 @@ pub enum Subject {
     Results,
 }
 
-#[derive(Drop)]
+#[derive(Clone, Copy)]
 pub struct Refusal {
     pub number: u8,
     pub subject: Subject,
@@ -78,7 +80,7 @@ impl Refusal {
 }
 
 // Tests in a row: all passed, or the refusal of the first that did not.
-#[derive(Drop)]
+#[derive(Clone, Copy)]
 pub enum Gate {
     Pass,
     Bar(Refusal),
@@ -95,7 +97,7 @@ pub fn bar(number: u8, subject: Subject, position: usize) -> Gate
 }
 
 // A word of a report: the first `len` of `bytes`, with spaces behind it.
-#[derive(Drop)]
+#[derive(Clone, Copy)]
 pub struct Label {
     pub bytes: [u8; 10],
     pub len: usize,

@@ -1,4 +1,6 @@
 // The text of a report, put into a lent room.
+#![tactic(auto)]
+
 ghost use Rattle.std.specs.Prelude.{◌+◌, ◌≤◌, ◌≡◌, length};
 ghost use Rattle.printing.specs.Room.{Put};
 ghost use Rattle.tables.specs.declared.Report.TheVariants.{Tallied as TheTallied, Refused as TheRefused};

@@ -31,7 +31,7 @@ const FIFTH: usize = 38;
 
 const NUMBER: usize = 8;
 
-#[derive(Drop)]
+#[derive(Clone, Copy)]
 pub struct Sizes {
     pub constraint: usize,
     pub answer: usize,
@@ -40,7 +40,7 @@ pub struct Sizes {
     pub results: usize,
 }
 
-#[derive(Drop)]
+#[derive(Clone, Copy)]
 pub enum NextCase {
     Case(Sizes),
     End,

@@ -1,4 +1,6 @@
 // What the programs share: reading bytes and numbers, tables, and printing counts and refusals.
+#![tactic(auto)]
+
 ghost use Rattle.std.specs.Prelude.{◌-◌, ◌≤◌, ◌<◌, ◌≡◌, length, take, drop};
 ghost use Rattle.reporting.specs.Hex.{digit_value, hex_after};
 

@@ -1,4 +1,6 @@
 // The calls for C programs. include/spear.h has their declarations.
+#![tactic(auto)]
+
 ghost use Rattle.std.specs.Prelude.{◌≡◌};
 ghost use Rattle.std.proofs.Math.Option.{none, some};
 ghost use Rattle.judge.specs.InUse.{tables_of};

@@ -1,4 +1,6 @@
 // spearcheck CONSTRAINTS ANSWER: reads the two files, and prints the report on the answer.
+#![tactic(auto)]
+
 use loading::{FILE_ROOM, load};
 use verdict_printing::print_report;
 

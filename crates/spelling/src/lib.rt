@@ -1,4 +1,6 @@
 // The operators' spellings, by the sections of the format.
+#![tactic(auto)]
+
 ghost use Rattle.std.specs.Prelude.{◌≡◌, ◌≤◌, length, drop};
 ghost use Rattle.std.proofs.Math.Option.{or_else};
 ghost use Rattle.edition.specs.declared.Edition.{Edition};
@@ -17,14 +19,14 @@ pub mod symbols;
 pub(crate) const LONGEST: usize = 4;
 
 // A spelling: the first `len` of `bytes`, with spaces behind it.
-#[derive(Drop)]
+#[derive(Clone, Copy)]
 pub struct Symbol {
     pub bytes: [u8; LONGEST],
     pub len: usize,
 }
 
 // The operator that a text spells.
-#[derive(Drop)]
+#[derive(Clone, Copy)]
 pub enum Spelt {
     Is(Operator),
     Nothing,

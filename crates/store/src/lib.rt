@@ -1,4 +1,6 @@
 // The tables that hold a constraint file: its variables and its lines. No other crate knows their layout.
+#![tactic(auto)]
+
 use edition::Edition;
 use refusal::Refusal;
 
@@ -8,34 +10,34 @@ pub mod names;
 pub mod variables;
 
 // A name: where its bytes stop, and their hash.
-#[derive(Drop)]
+#[derive(Clone, Copy)]
 pub struct Name {
     pub stop: usize,
     pub hash: u32,
 }
 
 // Where a name stands among the variables.
-#[derive(Drop)]
+#[derive(Clone, Copy)]
 pub enum Found {
     At(usize),
     Nowhere,
 }
 
-#[derive(Drop)]
+#[derive(Clone, Copy)]
 pub enum Version {
     NoVersion,
     HasVersion(Edition),
 }
 
 // The number is a byte: a word would leave a gap in `Progress` that is copied with every line.
-#[derive(Drop)]
+#[derive(Clone, Copy)]
 pub enum Expectation {
     NoExpectation,
     HasExpectation(u8),
 }
 
 // As much of a file as is read; its variables and lines stand in the tables.
-#[derive(Drop)]
+#[derive(Clone, Copy)]
 pub struct Progress {
     pub version: Version,
     pub expectation: Expectation,
@@ -44,7 +46,7 @@ pub struct Progress {
 }
 
 // What a line adds to the file: variables by how many there are with them.
-#[derive(Drop)]
+#[derive(Clone, Copy)]
 pub enum Added {
     NoPart,
     VersionPart(Edition),
@@ -54,7 +56,7 @@ pub enum Added {
     Fault(Refusal),
 }
 
-#[derive(Drop)]
+#[derive(Clone, Copy)]
 pub enum Step {
     Next(Progress),
     Stop(Refusal),

@@ -1,4 +1,6 @@
 // The check of an answer against a constraint file, and the report on it.
+#![tactic(auto)]
+
 use judge::Overall;
 use refusal::Refusal;
 
@@ -6,21 +8,21 @@ pub mod check;
 pub mod claims;
 pub mod reports;
 
-#[derive(Drop)]
+#[derive(Clone, Copy)]
 pub enum CheckReply {
     Checked(Overall),
     Refused(Refusal),
 }
 
 // The overall verdict, and how many lines there are.
-#[derive(Drop)]
+#[derive(Clone, Copy)]
 pub enum Judgement {
     Done(Overall, usize),
     Stopped(Refusal),
 }
 
 // How many lines there are, and how many of each verdict.
-#[derive(Drop)]
+#[derive(Clone, Copy)]
 pub struct Tally {
     pub lines: usize,
     pub held: usize,
@@ -28,7 +30,7 @@ pub struct Tally {
     pub disregarded: usize,
 }
 
-#[derive(Drop)]
+#[derive(Clone, Copy)]
 pub enum Report {
     Tallied(Overall, Tally),
     Refused(Refusal),

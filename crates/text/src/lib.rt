@@ -1,12 +1,14 @@
 // Bytes, lines, tokens, names and numbers: what constraint files and answers share.
 // A piece of text is a prefix of its file and a start, so that places are places of the file.
+#![tactic(auto)]
+
 pub mod claims;
 pub mod compare;
 pub mod numbers;
 pub mod scan;
 
 // A class of bytes.
-#[derive(Drop)]
+#[derive(Clone, Copy)]
 pub enum Class {
     // Any byte but this one.
     Until(u8),
@@ -19,27 +21,27 @@ pub enum Class {
 }
 
 // A token: where it starts, and where it stops.
-#[derive(Drop)]
+#[derive(Clone, Copy)]
 pub struct Span {
     pub start: usize,
     pub stop: usize,
 }
 
 // A line: where its content ends, and where the next line starts; or its first byte that is not allowed.
-#[derive(Drop)]
+#[derive(Clone, Copy)]
 pub enum LineFound {
     Ends(usize, usize),
     Faulty(usize),
 }
 
 // The next token of a line.
-#[derive(Drop)]
+#[derive(Clone, Copy)]
 pub enum NextToken {
     OneMore(Span),
     NoMore,
 }
 
-#[derive(Drop)]
+#[derive(Clone, Copy)]
 pub enum Number {
     Value(u64),
     TooBig,
@@ -47,13 +49,13 @@ pub enum Number {
 }
 
 // The number that digits make, and where they stop.
-#[derive(Drop)]
+#[derive(Clone, Copy)]
 pub struct Digits {
     pub number: Number,
     pub stop: usize,
 }
 
-#[derive(Drop)]
+#[derive(Clone, Copy)]
 pub enum TypeRead {
     Width(u64),
     NoWidth,
@@ -61,7 +63,7 @@ pub enum TypeRead {
 }
 
 // A type, and where its token stops.
-#[derive(Drop)]
+#[derive(Clone, Copy)]
 pub struct TypeFound {
     pub kind: TypeRead,
     pub stop: usize,

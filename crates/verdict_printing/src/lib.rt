@@ -1,4 +1,6 @@
 // What the check and the report answer, printed as the scope document has it, and tables of verdicts.
+#![tactic(auto)]
+
 use judge::Overall;
 use libc::STDOUT_FILENO;
 use report::{REPORT_BYTES, put_overall, report_on};

@@ -1,4 +1,6 @@
 // Answer files: writing the values of a lent table, where they satisfy the constraint file.
+#![tactic(auto)]
+
 ghost use Rattle.std.specs.Prelude.{◌≡◌, List, ℕ, ◌≤◌, ◌<◌, length};
 ghost use Rattle.edition.specs.Edition.{max_variables, max_lines, max_file_bytes};
 ghost use Rattle.constraint.specs.File.{Variable};
