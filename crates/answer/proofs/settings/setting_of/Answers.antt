@@ -1,0 +1,34 @@
+use Prim.Native.Nat.{◌^◌}
+use mathlib.Core.Path.{◌≡◌, refl, sym, ap, ◌∙◌}
+use mathlib.Core.List.{List}
+use lib.Dec.{ltb}
+use borrow.Author.Rules.{rules}
+use Rattle.arithmetic.proofs.RuleLaws.{fits_test}
+use Rattle.constraint.specs.File.{Variable, width_at}
+use Rattle.store.specs.Tables.{place, variables_in}
+use Rattle.store.proofs.LookupLaws.{variables_length}
+use Rattle.answer.proofs.SettingLaws.{found_below, named_long, named_unknown, named_set, named_unfit}
+use Rattle.answer.proofs.settings.setting_of.Goals as goal
+
+pub returns-then-text-at-gt-NAME_BYTES : goal.returns-then-text-at-gt-NAME_BYTES
+returns-then-text-at-gt-NAME_BYTES c = let a = c.args in (named_long (variables_in c.args.file.now c.args.variables.now c.args.n) a.text.now a.at a.stop a.v c.if-text-at-gt-NAME_BYTES.true, tt)
+
+pub returns-in-Nowhere : goal.returns-in-Nowhere
+returns-in-Nowhere c = let a = c.args in (named_unknown (variables_in c.args.file.now c.args.variables.now c.args.n) a.text.now a.at a.stop a.v c.if-text-at-gt-NAME_BYTES.false (sym (ap place c.in-Nowhere.is) ∙ c.find.ensures), tt)
+
+pub returns-then-fits : goal.returns-then-fits
+returns-then-fits c =
+    let fit : (c.fits2.result ≡ ltb c.args.v (2 ^ width_at (variables_in c.args.file.now c.args.variables.now c.args.n) c.in-At.i)) = let a = c.args in
+    c.fits2.ensures ∙ fits_test _ _ ∙ rw (c.width_of.ensures a.file.now) in
+    let a = c.args in
+    let i = c.i-1.given in
+    let e = sym (ap place i.1) ∙ c.find.ensures in
+    (named_set (variables_in c.args.file.now c.args.variables.now c.args.n) a.text.now a.at a.stop a.v c.if-text-at-gt-NAME_BYTES.false i.0.0 e (sym fit ∙ c.if-fits.true), (found_below _ (variables_in c.args.file.now c.args.variables.now c.args.n) i.0.0 a.n (variables_length a.file.now a.variables.now a.n) e, refl))
+
+pub returns-else-fits : goal.returns-else-fits
+returns-else-fits c =
+    let fit : (c.fits2.result ≡ ltb c.args.v (2 ^ width_at (variables_in c.args.file.now c.args.variables.now c.args.n) c.in-At.i)) = let a = c.args in
+    c.fits2.ensures ∙ fits_test _ _ ∙ rw (c.width_of.ensures a.file.now) in
+    let a = c.args in
+    let i = c.i-1.given in
+    (named_unfit (variables_in c.args.file.now c.args.variables.now c.args.n) a.text.now a.at a.stop a.v c.if-text-at-gt-NAME_BYTES.false i.0.0 (sym (ap place i.1) ∙ c.find.ensures) (sym fit ∙ c.if-fits.false), tt)

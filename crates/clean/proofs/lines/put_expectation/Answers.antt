@@ -1,0 +1,21 @@
+use native.Mathlib.Omega.{arith}
+use borrow.Author.Rules.{rules}
+use Rattle.clean.proofs.LineLaws.{put_no_expectation, expectation_length, put_expectation}
+use Rattle.clean.proofs.lines.put_expectation.Goals as goal
+
+pub put_bytes-number-requires : goal.put_bytes-number-requires
+put_bytes-number-requires c = omega (arith, rw c.in-HasExpectation.is at c.requires, expectation_length c.in-HasExpectation.n)
+
+pub put_digits-requires : goal.put_digits-requires
+put_digits-requires c = omega (arith, rw c.in-HasExpectation.is at c.requires, expectation_length c.in-HasExpectation.n)
+
+pub returns-in-NoExpectation : goal.returns-in-NoExpectation
+returns-in-NoExpectation c = rw c.in-NoExpectation.is (put_no_expectation _ _)
+
+pub returns-in-HasExpectation : goal.returns-in-HasExpectation
+returns-in-HasExpectation c =     let n = c.expectation-1.given in
+    rw n.1 (put_expectation n.0.0 (rw n.1 at c.requires) c.put_bytes-number.ensures c.put_digits.ensures)
+
+-- TODO old:
+-- slice-aggregate-put-bytes : tie.Need-slice-aggregate-put-bytes
+-- slice-aggregate-put-bytes c = search rules

@@ -1,0 +1,14 @@
+use Prim.Native.Nat.{◌-◌}
+use native.Mathlib.Omega.{arith}
+use borrow.Author.Rules.{rules}
+use Rattle.edition.specs.Edition.{edition10}
+use Rattle.store.specs.Tables.{variables_in}
+use Rattle.printing.proofs.RowLaws.{Putting, putting_starts, putting_room, putting_more, putting_done}
+use Rattle.clean.proofs.LineLaws.{statement_at, statements_are}
+use Rattle.clean.proofs.lines.put_statements.Given as goal
+
+abbrev pub invariant-loop-k : goal.invariant-loop-k
+invariant-loop-k l = Putting (statement_at edition10 (variables_in l.file l.variables l.n) l.heads l.bodies) l.m l.initial.room l.room l.k l.initial.end l.end
+
+abbrev pub decreases-loop-k : goal.decreases-loop-k
+decreases-loop-k l = l.m - l.initial.end

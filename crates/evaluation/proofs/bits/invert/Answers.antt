@@ -1,0 +1,6 @@
+use Rattle.std.proofs.Common.{sym, rules}
+use Rattle.arithmetic.proofs.PlaceLaws.{inverted_is}
+use Rattle.evaluation.proofs.bits.invert.Goals as goal
+
+pub returns : goal.returns
+returns c = rw c.mask.ensures (sym (inverted_is c.args.k c.args.a c.requires.bound))

@@ -1,0 +1,14 @@
+use Prim.Native.Nat.{◌+◌, ◌-◌, ◌≤◌}
+use mathlib.Core.Path.{◌≡◌, ◌∙◌}
+use native.Mathlib.Omega.{arith}
+use borrow.Author.Rules.{rules}
+use Rattle.index.specs.Internal.{entry_of}
+use Rattle.index.proofs.TallyLaws.{Summed, summed_start, summed_next, sum_below, sum_next}
+use Rattle.index.proofs.building.accumulate.Given as goal
+
+-- `accumulate` meets its contract. The loop's invariant: the first i counts are turned into sums, and those behind them are as they were.
+abbrev pub invariant-loop-i : goal.invariant-loop-i
+invariant-loop-i l = (l.i ≤ l.counts) × Summed l.initial.counts l.i l.end l.initial.i
+
+abbrev pub decreases-loop-i : goal.decreases-loop-i
+decreases-loop-i l = l.counts - l.i

@@ -1,0 +1,20 @@
+use Prim.Native.Nat.{ℕ, ◌-◌, ◌≤◌, ◌<◌}
+use mathlib.Core.Path.{◌≡◌}
+use native.Mathlib.Omega.{arith}
+use lib.ListN.{length, get_or}
+use borrow.Author.Rules.{rules}
+use Rattle.edition.specs.Edition.{max_variables}
+use Rattle.refusal.specs.Lists.{how_many}
+use Rattle.refusal.proofs.ManyLaws.{many_most}
+use Rattle.store.specs.Tables.{tabulate, lines_in}
+use Rattle.store.proofs.LineTableLaws.{lines_length}
+use Rattle.index.specs.Select.{names}
+use Rattle.index.proofs.CountLaws.{many_next}
+use Rattle.index.proofs.building.count.Given as goal
+
+-- `count` meets its contract. The loop's invariant: the counts are those of the first k lines.
+abbrev pub invariant-loop-k : goal.invariant-loop-k
+invariant-loop-k l = (l.k ≤ l.bodies) × (length l.initial.k ≡ max_variables) × ((q : ℕ) → q < max_variables → get_or l.initial.k q 0 ≡ how_many (names q) (lines_in l.counts l.heads l.k))
+
+abbrev pub decreases-loop-k : goal.decreases-loop-k
+decreases-loop-k l = l.bodies - l.k

@@ -1,0 +1,13 @@
+use Prim.Native.Nat.{◌-◌, ◌≤◌}
+use mathlib.Core.Path.{◌≡◌}
+use native.Mathlib.Omega.{arith}
+use borrow.Author.Rules.{rules}
+use Rattle.index.proofs.FillLaws.{Filled, filled_start, filled_room, filled_next, filled_end}
+use Rattle.index.proofs.building.list_all.Given as goal
+
+-- `list_all` meets its contract. The loop's invariant: the lists are filled as far as the first k lines fill them.
+abbrev pub invariant-loop-k : goal.invariant-loop-k
+invariant-loop-k l = (l.k ≤ l.bodies) × Filled l.initial.next l.next l.heads l.bodies l.initial.lists l.k l.initial.k l.m
+
+abbrev pub decreases-loop-k : goal.decreases-loop-k
+decreases-loop-k l = l.bodies - l.k

@@ -1,0 +1,16 @@
+use Prim.Native.Nat.{◌-◌, ◌≤◌}
+use mathlib.Core.Path.{◌≡◌, refl, ◌∙◌}
+use mathlib.Core.List.{◌++◌}
+use native.Mathlib.Omega.{arith}
+use lib.ListN.{length, take, drop, length-set}
+use borrow.Author.Rules.{rules}
+use Rattle.store.proofs.TableLaws.{row_more}
+use Rattle.index.proofs.TallyLaws.{front_last}
+use Rattle.index.proofs.building.put_starts.Given as goal
+
+-- `put_starts` meets its contract. The loop's invariant: the first i numbers stand in front of the table.
+abbrev pub invariant-loop-i : goal.invariant-loop-i
+invariant-loop-i l = (l.i ≤ l.n) × (length l.initial.i ≡ length l.initial.starts) × (l.initial.i ≡ take l.i l.firsts ++ drop l.i l.initial.starts)
+
+abbrev pub decreases-loop-i : goal.decreases-loop-i
+decreases-loop-i l = l.n - l.i

@@ -1,0 +1,16 @@
+use Prim.Native.Nat.{◌-◌, ◌<◌, ◌^◌, min}
+use mathlib.Core.Path.{◌≡◌, sym, ◌∙◌}
+use native.Mathlib.Nat.{min-le_right}
+use native.Mathlib.Omega.{arith}
+use lib.ListN.{length, take, drop}
+use Rattle.index.specs.AnyIndex.{list_fits}
+use Rattle.index.proofs.AlongLaws.{list_from, list_first, list_low, list_next, list_end}
+use borrow.Author.Rules.{rules}
+use Rattle.index.proofs.fitting.list_fits.Given as goal
+
+-- `list_fits` meets its contract. The loop's invariant: whether the list fits is whether the numbers that are left do, behind the last one seen.
+abbrev pub invariant-loop-k : goal.invariant-loop-k
+invariant-loop-k l = (l.end ≡ min l.to (length l.lists)) × (l.initial.k < 2 ^ 32) × (list_from l.m l.lists l.to l.initial.k l.k ≡ list_fits l.m (drop l.from (take l.to l.lists)))
+
+abbrev pub decreases-loop-k : goal.decreases-loop-k
+decreases-loop-k l = l.end - l.k

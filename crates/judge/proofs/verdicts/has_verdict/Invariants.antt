@@ -1,0 +1,17 @@
+use Prim.Native.Nat.{◌+◌, ◌-◌, ◌≤◌}
+use mathlib.Core.Path.{◌≡◌, refl, ◌∙◌}
+use mathlib.Core.Bool.{◌||◌}
+use lib.Dec.{eqb}
+use lib.ListN.{length, drop}
+use borrow.Author.Rules.{rules}
+use Rattle.refusal.specs.Lists.{first_from, is_there}
+use Rattle.judge.specs.Judge.{first_verdict}
+use Rattle.judge.proofs.OverallLaws.{found_more, found_all}
+use Rattle.judge.proofs.verdicts.has_verdict.Given as goal
+
+-- `has_verdict` meets its contract. The loop's invariant: there is a verdict v where it was found, or among those that are left.
+abbrev pub invariant-loop-i : goal.invariant-loop-i
+invariant-loop-i l = (l.i ≤ length l.verdicts) × ((l.initial.i || is_there (first_from (eqb l.v) (l.i + 1) (drop l.i l.verdicts))) ≡ is_there (first_verdict l.v l.verdicts))
+
+abbrev pub decreases-loop-i : goal.decreases-loop-i
+decreases-loop-i l = length l.verdicts - l.i

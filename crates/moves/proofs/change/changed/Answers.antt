@@ -1,0 +1,5 @@
+use borrow.Author.Rules.{rules}
+use Rattle.moves.proofs.change.changed.Goals as goal
+
+pub returns : goal.returns
+returns c = rw c.differing_bits.ensures

@@ -1,0 +1,18 @@
+use Prim.Native.Nat.{◌-◌, ◌≤◌}
+use mathlib.Core.Path.{◌≡◌, refl}
+use mathlib.Core.List.{List}
+use native.Mathlib.Omega.{arith}
+use lib.ListN.{length, get_or}
+use borrow.Author.Rules.{rules}
+use Rattle.constraint.specs.File.{Variable}
+use Rattle.store.specs.Tables.{AllHeadsFit}
+use Rattle.moves.specs.Internal.{columns_of, judged_in}
+use Rattle.moves.proofs.RenewLaws.{ListedTurn, differs_most, listed_place, listed_start, listed_next, listed_end}
+use Rattle.moves.proofs.renewing.renew_listed.Given as goal
+
+-- `renew_listed` meets its contract. The loop's invariant: the first k lines of the list are made anew and counted, and all others are as they were.
+abbrev pub invariant-loop-k : goal.invariant-loop-k
+invariant-loop-k l =     (l.k ≤ length l.initial.results) × (length l.initial.altered ≡ length l.initial.verdicts) × (length l.altered ≡ length l.verdicts) × (l.initial.k ≤ l.k) × ((xs : List Variable) → AllHeadsFit xs l.heads l.bodies l.m → ListedTurn xs l.heads l.bodies l.m l.row (columns_of l.initial.verdicts l.verdicts) l.initial.results (columns_of l.initial.altered l.altered) l.initial.k l.k)
+
+abbrev pub decreases-loop-k : goal.decreases-loop-k
+decreases-loop-k l = length l.initial.results - l.k

@@ -1,0 +1,28 @@
+use mathlib.Core.Path.{sym}
+use native.Mathlib.Omega.{arith}
+use lib.Seq.{length-take-le}
+use borrow.Author.Rules.{rules}
+use Rattle.judge.specs.InUse.{tables_of}
+use Rattle.moves.specs.Gate.{changing}
+use Rattle.moves.specs.Run.{Turn}
+use Rattle.moves.specs.Internal.{index_if}
+use Rattle.moves.proofs.WholeLaws.{front_lent}
+use Rattle.moves.proofs.runs.change_lent.Goals as goal
+
+pub slice_bounds-change_read-end-2 : goal.slice_bounds-change_read-end-2
+slice_bounds-change_read-end-2 c = sym (length-take-le c.lesser-k.result c.args.values.now (omega (arith, c.lesser-k.ensures)))
+
+pub slice_bounds-change_read-end-4 : goal.slice_bounds-change_read-end-4
+slice_bounds-change_read-end-4 c = sym (length-take-le c.lesser-l.result c.args.verdicts.now (omega (arith, c.lesser-l.ensures)))
+
+pub slice_bounds-change_read-end-6 : goal.slice_bounds-change_read-end-6
+slice_bounds-change_read-end-6 c = sym (length-take-le c.lesser-m.result c.args.results.now (omega (arith, c.lesser-m.ensures)))
+
+pub returns : goal.returns
+returns c =     let s = c.args in
+    let k = c.lesser-k in
+    let l = c.lesser-l in
+    let m = c.lesser-m in
+    let turn : Turn = record { call = changing s.i s.v (index_if s.through s.starts.now s.lists.now); lent = record { values = s.p; verdicts = s.q; results = s.s } } in
+    let left = c.change_read.new.constraint.values in
+    front_lent s.constraint.now (tables_of s.values-1.now s.verdicts-1.now s.results-1.now) turn k.result l.result m.result (record { reply = c.change_read.result; tables = tables_of left.0 left.1.0 left.1.1.0 }) k.ensures l.ensures m.ensures c.change_read.ensures

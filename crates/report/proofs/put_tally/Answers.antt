@@ -1,0 +1,35 @@
+use native.Mathlib.Omega.{arith}
+use Rattle.report.proofs.ReportLaws.{tally_length, put_tally}
+use borrow.Author.Rules.{rules}
+use Rattle.report.proofs.put_tally.Goals as goal
+
+pub put_count-lines-requires : goal.put_count-lines-requires
+put_count-lines-requires c =     omega (arith, c.requires, tally_length c.args.tally)
+
+pub put_count-held-requires : goal.put_count-held-requires
+put_count-held-requires c =     omega (arith, c.requires, tally_length c.args.tally)
+
+pub put_count-violated-requires : goal.put_count-violated-requires
+put_count-violated-requires c =     omega (arith, c.requires, tally_length c.args.tally)
+
+pub put_count-requires : goal.put_count-requires
+put_count-requires c =     omega (arith, c.requires, tally_length c.args.tally)
+
+pub returns : goal.returns
+returns c =     put_tally c.args.tally c.requires c.put_count-lines.ensures c.put_count-held.ensures c.put_count-violated.ensures c.put_count-lines.ensures
+
+-- TODO old:
+-- slice-aggregate-put-count : tie.Need-slice-aggregate-put-count
+-- slice-aggregate-put-count c = search rules
+
+-- TODO old:
+-- slice-aggregate-put-count-2 : tie.Need-slice-aggregate-put-count-2
+-- slice-aggregate-put-count-2 c = search rules
+
+-- TODO old:
+-- slice-aggregate-put-count-3 : tie.Need-slice-aggregate-put-count-3
+-- slice-aggregate-put-count-3 c = search rules
+
+-- TODO old:
+-- slice-aggregate-put-count-4 : tie.Need-slice-aggregate-put-count-4
+-- slice-aggregate-put-count-4 c = search rules

@@ -1,0 +1,8 @@
+use mathlib.Core.Path.{refl}
+use Rattle.spear.specs.Pack.{refusal_word}
+use borrow.Author.Rules.{rules}
+use Rattle.spear.proofs.packing.refusal_word.Goals as goal
+
+pub returns : goal.returns
+unfolding refusal_word
+returns c = refl

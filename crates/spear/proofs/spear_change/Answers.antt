@@ -1,0 +1,7 @@
+use mathlib.Core.Path.{ap}
+use Rattle.spear.specs.Pack.{packed_change}
+use borrow.Author.Rules.{rules}
+use Rattle.spear.proofs.spear_change.Goals as goal
+
+pub returns : goal.returns
+returns c = rw c.pack_change.ensures (ap packed_change c.change.ensures)

@@ -1,0 +1,7 @@
+use mathlib.Core.Path.{ap}
+use Rattle.spear.specs.Pack.{packed_index}
+use borrow.Author.Rules.{rules}
+use Rattle.spear.proofs.spear_index.Goals as goal
+
+pub returns : goal.returns
+returns c = rw c.pack_index.ensures (ap packed_index c.index.ensures)

@@ -1,0 +1,47 @@
+use mathlib.Core.Path.{◌≡◌, sym}
+use mathlib.Core.Bool.{true}
+use mathlib.Core.List.{◌∷◌}
+use Prim.Native.Nat.{◌≤◌, ◌<◌}
+use native.Mathlib.Omega.{arith}
+use lib.ListN.{length, take, drop}
+use lib.Seq.{length-take-le}
+use Rattle.arithmetic.proofs.RuleLaws.{arity_bounds}
+use Rattle.text.specs.Lines.{tokens_from}
+use Rattle.text.specs.Scan.{token_at}
+use Rattle.constraint.specs.File.{edition_of}
+use Rattle.store.proofs.LineTableLaws.{kept_same, kept_operator, fit_operator, line_operator}
+use Rattle.statement.proofs.OperandLaws.{operation_missing, operation_unknown, operation_read}
+use borrow.Author.Rules.{rules}
+use Rattle.statement.proofs.operations.place_operator.Goals as goal
+
+pub slice_bounds-operator_at-end : goal.slice_bounds-operator_at-end
+slice_bounds-operator_at-end c =
+    let within : (let t = c.in-OneMore.t in (t.start < t.stop) × (t.stop ≤ length c.args.line.now) × (length (take t.stop c.args.line.now) ≡ t.stop)) = let w = (rw c.in-OneMore.is at c.next_token.ensures.1) in
+    (w.1, w.2, length-take-le c.in-OneMore.t.stop c.args.line.now w.2) in
+    sym within.2
+
+pub operator_at-requires : goal.operator_at-requires
+operator_at-requires c =
+    let within : (let t = c.in-OneMore.t in (t.start < t.stop) × (t.stop ≤ length c.args.line.now) × (length (take t.stop c.args.line.now) ≡ t.stop)) = let w = (rw c.in-OneMore.is at c.next_token.ensures.1) in
+    (w.1, w.2, length-take-le c.in-OneMore.t.stop c.args.line.now w.2) in
+    omega (arith, within)
+
+pub returns-in-NoMore : goal.returns-in-NoMore
+returns-in-NoMore c =     (λ bodies f start next h b. rw c.refusal.ensures (operation_missing f _ _ c.args.line.now start next h (rw c.in-NoMore.is at c.next_token.ensures.0)), λ bodies. kept_same _ bodies _, λ bodies xs f. f, c.requires.1, tt)
+
+pub returns-in-Nothing : goal.returns-in-Nothing
+returns-in-Nothing c =
+    let tokens : (let t = c.in-OneMore.t in tokens_from true c.args.i (drop c.args.i c.args.line.now) ≡ token_at (take t.stop c.args.line.now) t.start ∷ tokens_from true t.stop (drop t.stop c.args.line.now)) = rw c.in-OneMore.is at c.next_token.ensures.0 in
+    (λ bodies f start next h b. rw c.refusal-in-Nothing.ensures (operation_unknown f _ _ _ _ _ tokens (rw c.in-Nothing.is at (c.operator_at.ensures (edition_of f)))), λ bodies. kept_same _ bodies _, λ bodies xs f. f, c.requires.1, tt)
+
+pub returns-in-Is : goal.returns-in-Is
+returns-in-Is c =
+    let tokens : (let t = c.in-OneMore.t in tokens_from true c.args.i (drop c.args.i c.args.line.now) ≡ token_at (take t.stop c.args.line.now) t.start ∷ tokens_from true t.stop (drop t.stop c.args.line.now)) = rw c.in-OneMore.is at c.next_token.ensures.0 in
+    let within : (let t = c.in-OneMore.t in (t.start < t.stop) × (t.stop ≤ length c.args.line.now) × (length (take t.stop c.args.line.now) ≡ t.stop)) = let w = (rw c.in-OneMore.is at c.next_token.ensures.1) in
+    (w.1, w.2, length-take-le c.in-OneMore.t.stop c.args.line.now w.2) in
+    let put = c.put_operator.ensures in
+    let op = c.in-Is.op in
+    let heads = c.args.heads.now in
+    let m = c.args.m in
+    let n = arity_bounds op in
+    (λ bodies f start next h b. rw (put.1, c.arity.ensures, line_operator heads bodies m op c.requires.1 c.requires.2, b) (operation_read f _ _ _ _ _ tokens op (rw c.in-Is.is at (c.operator_at.ensures (edition_of f)))), λ bodies. rw put.1 (kept_operator (kept_same heads bodies m) op), λ bodies xs f. rw put.1 (fit_operator xs heads bodies m op f), put.0, (record { at = within.1; least = rw c.arity.ensures n.0; most = rw c.arity.ensures n.1 }, rw c.arity.ensures n.0))

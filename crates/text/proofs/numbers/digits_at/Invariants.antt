@@ -1,0 +1,30 @@
+use Prim.Native.Nat.{ℕ, ◌+◌, ◌-◌, ◌*◌, ◌^◌, ◌≤◌, ◌<◌}
+use mathlib.Core.Path.{◌≡◌, refl, sym, ◌∙◌}
+use mathlib.Core.Bool.{true}
+use mathlib.Core.List.{List}
+use native.Mathlib.Omega.{arith}
+use lib.ListN.{length, get_or, drop}
+use borrow.Author.Rules.{rules}
+use borrow.Author.Tests.{not-true, not-false}
+use Rattle.text.specs.Bytes.{front_of}
+use Rattle.text.specs.Spelling.{decimal_from, decimal}
+use Rattle.text.specs.declared.Class.TheVariants.{Digit}
+use Rattle.text.specs.declared.Number.TheVariants.{TooBig}
+use Rattle.text.specs.Scan.{is_of, past, magnitude}
+use Rattle.text.proofs.RunLaws.{past_more, past_stop, past_end}
+use Rattle.text.proofs.NumberLaws.{digits_more, digits_stop, digits_end, digits_good, digits_big}
+use Rattle.text.proofs.SeenLaws.{digit_bounds}
+use Rattle.text.proofs.numbers.digits_at.Given as goal
+
+-- `digits_at` meets its contract. The loop's invariant: n and the digits that are left make the number that all of them make, and stop where they do.
+pub record Reading (text : List ℕ) (at n i : ℕ) : Type 0 where
+  pub within : i ≤ length text
+  pub fits : n < 2 ^ 64
+  pub left : decimal_from n (front_of (is_of Digit) (drop i text)) ≡ decimal (front_of (is_of Digit) (drop at text))
+  pub stop : past (is_of Digit) text i ≡ past (is_of Digit) text at
+
+abbrev pub invariant-loop-i : goal.invariant-loop-i
+invariant-loop-i l = Reading l.text l.at l.initial.i l.i
+
+abbrev pub decreases-loop-i : goal.decreases-loop-i
+decreases-loop-i l = length l.text - l.i

@@ -1,0 +1,14 @@
+use Prim.Native.Nat.{◌-◌}
+use native.Mathlib.Omega.{arith}
+use lib.ListN.{length}
+use borrow.Author.Rules.{rules}
+use Rattle.text.specs.Scan.{is_of, Scanned}
+use Rattle.text.proofs.ScanLaws.{scan_starts, scan_steps, scan_stops, scan_ends}
+use Rattle.text.proofs.scan.scan.Given as goal
+
+-- `scan` meets its contract: a scan for a byte that is not of the class.
+abbrev pub invariant-loop-i : goal.invariant-loop-i
+invariant-loop-i l = Scanned (is_of l.class) l.text l.at l.i
+
+abbrev pub decreases-loop-i : goal.decreases-loop-i
+decreases-loop-i l = length l.text - l.i

@@ -1,0 +1,12 @@
+use Prim.Native.Nat.{◌-◌}
+use native.Mathlib.Omega.{arith}
+use borrow.Author.Rules.{rules}
+use Rattle.printing.proofs.RowLaws.{Putting, putting_starts, putting_room, putting_more, putting_done}
+use Rattle.writer.proofs.SettingLaws.{setting_at, settings_are}
+use Rattle.writer.proofs.answers.put_settings.Given as goal
+
+abbrev pub invariant-loop-i : goal.invariant-loop-i
+invariant-loop-i l = Putting (setting_at l.file l.variables l.row) l.n l.initial.room l.room l.i l.initial.end l.end
+
+abbrev pub decreases-loop-i : goal.decreases-loop-i
+decreases-loop-i l = l.n - l.initial.end
