@@ -16,7 +16,7 @@ use Rattle.answer.specs.Internal.{entries_in, SettingsSized}
 use Rattle.answer.proofs.reading.read_lines.Given as goal
 
 abbrev pub invariant-loop-i : goal.invariant-loop-i
-invariant-loop-i l =     Reading Answer (read_answer_line (variables_in l.file l.variables l.n)) (settings_of false (entries_in l.initial.flags l.flags l.n)) l.answer (settings_of l.initial.i (entries_in l.initial.solved l.solved l.n)) l.i × SettingsSized l.initial.solved l.solved
+invariant-loop-i l =     Reading Answer (read_answer_line (variables_in l.file l.variables l.n)) (settings_of false (entries_in l.initial.flags l.initial.values l.n)) l.answer (settings_of l.solved (entries_in l.flags l.values l.n)) l.i × SettingsSized l.flags l.values
 
 abbrev pub decreases-loop-i : goal.decreases-loop-i
 decreases-loop-i l = length l.answer - l.i

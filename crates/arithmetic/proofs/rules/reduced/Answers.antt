@@ -11,6 +11,6 @@ returns-then-k-lt-WORD_BITS c = rw (one_shl c.args.k c.if-k-lt-WORD_BITS.true)
 pub returns-else-k-lt-WORD_BITS : goal.returns-else-k-lt-WORD_BITS
 returns-else-k-lt-WORD_BITS c = sym (mod-eq_of_lt (lt_of_lt_of_le c.ranges.x.fits (pow_mono c.if-k-lt-WORD_BITS.false)))
 
--- TODO old:
--- rem-result : tie.Need-nonzero-rem-result
--- rem-result c = rw (one_shl c.before.args.k c.if1.true) (pow_pos c.before.args.k)
+
+
+

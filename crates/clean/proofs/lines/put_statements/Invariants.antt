@@ -8,7 +8,7 @@ use Rattle.clean.proofs.LineLaws.{statement_at, statements_are}
 use Rattle.clean.proofs.lines.put_statements.Given as goal
 
 abbrev pub invariant-loop-k : goal.invariant-loop-k
-invariant-loop-k l = Putting (statement_at edition10 (variables_in l.file l.variables l.n) l.heads l.bodies) l.m l.initial.room l.room l.k l.initial.end l.end
+invariant-loop-k l = Putting (statement_at edition10 (variables_in l.file l.variables l.n) l.heads l.bodies) l.m l.initial.room l.at l.room l.k l.end
 
 abbrev pub decreases-loop-k : goal.decreases-loop-k
-decreases-loop-k l = l.m - l.initial.end
+decreases-loop-k l = l.m - l.k

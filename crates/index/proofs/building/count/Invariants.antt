@@ -14,7 +14,7 @@ use Rattle.index.proofs.building.count.Given as goal
 
 -- `count` meets its contract. The loop's invariant: the counts are those of the first k lines.
 abbrev pub invariant-loop-k : goal.invariant-loop-k
-invariant-loop-k l = (l.k ≤ l.bodies) × (length l.initial.k ≡ max_variables) × ((q : ℕ) → q < max_variables → get_or l.initial.k q 0 ≡ how_many (names q) (lines_in l.counts l.heads l.k))
+invariant-loop-k l = (l.k ≤ l.m) × (length l.counts ≡ max_variables) × ((q : ℕ) → q < max_variables → get_or l.counts q 0 ≡ how_many (names q) (lines_in l.heads l.bodies l.k))
 
 abbrev pub decreases-loop-k : goal.decreases-loop-k
-decreases-loop-k l = l.bodies - l.k
+decreases-loop-k l = l.m - l.k

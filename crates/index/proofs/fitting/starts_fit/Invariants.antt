@@ -9,7 +9,7 @@ use Rattle.index.proofs.fitting.starts_fit.Given as goal
 
 -- `starts_fit` meets its contract. The loop's invariant: whether the starts fit is whether those that are left do, behind the last one seen.
 abbrev pub invariant-loop-i : goal.invariant-loop-i
-invariant-loop-i l = (l.i ≤ l.n + 1) × (starts_from l.starts l.lists l.n l.initial.i l.i ≡ starts_fit l.n (index_of l.starts l.lists))
+invariant-loop-i l = (l.i ≤ l.n + 1) × (starts_from l.starts l.lists l.n l.last l.i ≡ starts_fit l.n (index_of l.starts l.lists))
 
 abbrev pub decreases-loop-i : goal.decreases-loop-i
 decreases-loop-i l = l.n + 1 - l.i

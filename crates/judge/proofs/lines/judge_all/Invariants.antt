@@ -12,7 +12,7 @@ use Rattle.judge.proofs.lines.judge_all.Given as goal
 
 -- `judge_all` meets its contract. The loop's invariant: the verdicts and the results of the first i lines are put down, and what is behind them is as it was.
 abbrev pub invariant-loop-i : goal.invariant-loop-i
-invariant-loop-i l =     (l.i ≤ l.m) × (length l.results ≡ length l.initial.verdicts) × (length l.initial.i ≡ length l.verdicts) × ((xs : List Variable) → AllHeadsFit xs l.heads l.bodies l.m → (l.results ≡ verdicts_of xs l.row (lines_in l.heads l.bodies l.i) ++ drop l.i l.initial.verdicts) × (l.initial.i ≡ results_of xs l.row (lines_in l.heads l.bodies l.i) ++ drop l.i l.verdicts))
+invariant-loop-i l =     (l.i ≤ l.m) × (length l.verdicts ≡ length l.initial.verdicts) × (length l.results ≡ length l.initial.results) × ((xs : List Variable) → AllHeadsFit xs l.heads l.bodies l.m → (l.verdicts ≡ verdicts_of xs l.row (lines_in l.heads l.bodies l.i) ++ drop l.i l.initial.verdicts) × (l.results ≡ results_of xs l.row (lines_in l.heads l.bodies l.i) ++ drop l.i l.initial.results))
 
 abbrev pub decreases-loop-i : goal.decreases-loop-i
 decreases-loop-i l = l.m - l.i

@@ -13,7 +13,7 @@ use Rattle.moves.proofs.renewing.renew.Given as goal
 
 -- `renew` meets its contract. The loop's invariant: the first k lines are made anew and counted, and those behind them are as they were.
 abbrev pub invariant-loop-k : goal.invariant-loop-k
-invariant-loop-k l =     (l.k ≤ l.m) × (length l.named ≡ length l.initial.verdicts) × (length l.initial.altered ≡ length l.verdicts) × (l.altered ≤ l.k) × (l.initial.k ≤ l.k) × ((xs : List Variable) → AllHeadsFit xs l.heads l.bodies l.m → NamedTurn xs l.heads l.bodies l.m l.row (columns_of l.initial.verdicts l.verdicts) l.initial.results (columns_of l.named l.initial.altered) l.altered l.initial.k l.k)
+invariant-loop-k l =     (l.k ≤ l.m) × (length l.verdicts ≡ length l.initial.verdicts) × (length l.results ≡ length l.initial.results) × (l.named ≤ l.k) × (l.altered ≤ l.k) × ((xs : List Variable) → AllHeadsFit xs l.heads l.bodies l.m → NamedTurn xs l.heads l.bodies l.m l.row (columns_of l.initial.verdicts l.initial.results) l.i (columns_of l.verdicts l.results) l.named l.altered l.k)
 
 abbrev pub decreases-loop-k : goal.decreases-loop-k
 decreases-loop-k l = l.m - l.k

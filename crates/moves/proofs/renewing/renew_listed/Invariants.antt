@@ -12,7 +12,7 @@ use Rattle.moves.proofs.renewing.renew_listed.Given as goal
 
 -- `renew_listed` meets its contract. The loop's invariant: the first k lines of the list are made anew and counted, and all others are as they were.
 abbrev pub invariant-loop-k : goal.invariant-loop-k
-invariant-loop-k l =     (l.k ≤ length l.initial.results) × (length l.initial.altered ≡ length l.initial.verdicts) × (length l.altered ≡ length l.verdicts) × (l.initial.k ≤ l.k) × ((xs : List Variable) → AllHeadsFit xs l.heads l.bodies l.m → ListedTurn xs l.heads l.bodies l.m l.row (columns_of l.initial.verdicts l.verdicts) l.initial.results (columns_of l.initial.altered l.altered) l.initial.k l.k)
+invariant-loop-k l =     (l.k ≤ length l.list) × (length l.verdicts ≡ length l.initial.verdicts) × (length l.results ≡ length l.initial.results) × (l.altered ≤ l.k) × ((xs : List Variable) → AllHeadsFit xs l.heads l.bodies l.m → ListedTurn xs l.heads l.bodies l.m l.row (columns_of l.initial.verdicts l.initial.results) l.list (columns_of l.verdicts l.results) l.altered l.k)
 
 abbrev pub decreases-loop-k : goal.decreases-loop-k
-decreases-loop-k l = length l.initial.results - l.k
+decreases-loop-k l = length l.list - l.k

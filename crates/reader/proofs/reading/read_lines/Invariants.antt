@@ -15,7 +15,7 @@ use Rattle.reader.proofs.ReaderLaws.{nothing_held, room_enough}
 use Rattle.reader.proofs.reading.read_lines.Given as goal
 
 abbrev pub invariant-loop-i : goal.invariant-loop-i
-invariant-loop-i l =     Reading Constraint read_line empty_file l.file (stored_file l.file (store_of l.bodies l.initial.p l.p) l.initial.i) l.i × StoreSized (store_of l.bodies l.initial.p l.p) × InTables l.initial.i × Searchable l.file l.bodies l.initial.i.variables × HeadsInUseFit l.file (store_of l.bodies l.initial.p l.p) l.initial.i
+invariant-loop-i l =     Reading Constraint read_line empty_file l.file (stored_file l.file (store_of l.variables l.heads l.bodies) l.p) l.i × StoreSized (store_of l.variables l.heads l.bodies) × InTables l.p × Searchable l.file l.variables l.p.variables × HeadsInUseFit l.file (store_of l.variables l.heads l.bodies) l.p
 
 abbrev pub decreases-loop-i : goal.decreases-loop-i
 decreases-loop-i l = length l.file - l.i

@@ -15,7 +15,7 @@ use Rattle.store.proofs.hashing.name_at.Given as goal
 -- `name_at` meets its contract. The loop's invariant: the run of bytes of a name that is left ends where the whole one does,
 -- and its bytes behind the hash so far give the whole one's hash.
 abbrev pub invariant-loop-i : goal.invariant-loop-i
-invariant-loop-i l = (l.i ≤ length l.text) × (past (is_of NameByte) l.text l.i ≡ past (is_of NameByte) l.text l.at) × (hash_after l.initial.i (front_of (is_of NameByte) (drop l.i l.text)) ≡ hash_of (front_of (is_of NameByte) (drop l.at l.text)))
+invariant-loop-i l = (l.i ≤ length l.text) × (past (is_of NameByte) l.text l.i ≡ past (is_of NameByte) l.text l.at) × (hash_after l.hash (front_of (is_of NameByte) (drop l.i l.text)) ≡ hash_of (front_of (is_of NameByte) (drop l.at l.text)))
 
 abbrev pub decreases-loop-i : goal.decreases-loop-i
 decreases-loop-i l = length l.text - l.i

@@ -24,7 +24,7 @@ pub record Reading (text : List ℕ) (at n i : ℕ) : Type 0 where
   pub stop : past (is_of Digit) text i ≡ past (is_of Digit) text at
 
 abbrev pub invariant-loop-i : goal.invariant-loop-i
-invariant-loop-i l = Reading l.text l.at l.initial.i l.i
+invariant-loop-i l = Reading l.text l.at l.n l.i
 
 abbrev pub decreases-loop-i : goal.decreases-loop-i
 decreases-loop-i l = length l.text - l.i

@@ -6,7 +6,7 @@ use Rattle.writer.proofs.SettingLaws.{settings_are}
 use Rattle.writer.proofs.answers.settings_length.Given as goal
 
 abbrev pub invariant-loop-i : goal.invariant-loop-i
-invariant-loop-i l = Measuring l.file l.variables l.row l.n l.initial.length l.length
+invariant-loop-i l = Measuring l.file l.variables l.row l.n l.i l.length
 
 abbrev pub decreases-loop-i : goal.decreases-loop-i
-decreases-loop-i l = l.n - l.initial.length
+decreases-loop-i l = l.n - l.i
