@@ -16,4 +16,4 @@ pub put_byte-requires : goal.put_byte-requires
 put_byte-requires c =     omega (arith, c.requires, tallied_length c.args.overall c.args.tally)
 
 pub returns : goal.returns
-returns c =     put_tallied c.args.overall c.args.tally c.requires c.put_overall-first.ensures c.put_byte-second.ensures c.put_tally-end.ensures c.put_byte-second.ensures
+returns c =     put_tallied c.args.overall c.args.tally c.requires c.put_overall-first.ensures c.put_byte-second.ensures c.put_tally-end.ensures c.put_byte.ensures

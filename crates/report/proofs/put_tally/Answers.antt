@@ -16,7 +16,7 @@ pub put_count-requires : goal.put_count-requires
 put_count-requires c =     omega (arith, c.requires, tally_length c.args.tally)
 
 pub returns : goal.returns
-returns c =     put_tally c.args.tally c.requires c.put_count-lines.ensures c.put_count-held.ensures c.put_count-violated.ensures c.put_count-lines.ensures
+returns c =     put_tally c.args.tally c.requires c.put_count-lines.ensures c.put_count-held.ensures c.put_count-violated.ensures c.put_count.ensures
 
 -- TODO old:
 -- slice-aggregate-put-count : tie.Need-slice-aggregate-put-count

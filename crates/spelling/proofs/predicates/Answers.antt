@@ -9,4 +9,4 @@ use Rattle.spelling.proofs.predicates.Goals as goal
 pub returns : goal.returns
 unfolding spelling_of spelling_in spellings bitwise_spellings predicate_spellings arithmetic_spellings shift_and_cast_spellings operator_number bitwise_number comparison_number arithmetic_number division_number shift_number extension_number
 returns c =     let a = c.args in
-    all_tested (untested (drop a.at a.text.now) a.found predicate_spellings then c.or_operator-found.ensures edition10 then c.or_operator-found-2.ensures edition10 then c.or_operator-found-3.ensures edition10 then c.or_operator-found-4.ensures edition10 then c.or_operator-found-5.ensures edition10 then c.or_operator-found-6.ensures edition10 then c.or_operator-found-7.ensures edition10 then c.or_operator-found-8.ensures edition10 then c.or_operator-found-9.ensures edition10 then c.or_operator-found-10.ensures edition10 then c.or_operator-found.ensures edition10)
+    all_tested (untested (drop a.at a.text.now) a.found predicate_spellings then c.or_operator-found.ensures edition10 then c.or_operator-found-2.ensures edition10 then c.or_operator-found-3.ensures edition10 then c.or_operator-found-4.ensures edition10 then c.or_operator-found-5.ensures edition10 then c.or_operator-found-6.ensures edition10 then c.or_operator-found-7.ensures edition10 then c.or_operator-found-8.ensures edition10 then c.or_operator-found-9.ensures edition10 then c.or_operator-found-10.ensures edition10 then c.or_operator.ensures edition10)

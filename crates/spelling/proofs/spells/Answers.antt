@@ -13,4 +13,4 @@ pub slice_bounds-is_word-end : goal.slice_bounds-is_word-end
 slice_bounds-is_word-end c = rw (c.symbol_of-symbol.ensures edition10) (ap length (sym (symbol_front (spelling_of edition10 c.args.op))))
 
 pub returns : goal.returns
-returns c = rw (c.symbol_of-symbol.ensures e, symbol_front (spelling_of e c.args.op)) at c.is_IsWord.ensures
+returns c e = rw (c.symbol_of-symbol.ensures e, symbol_front (spelling_of e c.args.op)) at c.is_word.ensures

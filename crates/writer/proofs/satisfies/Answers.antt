@@ -24,11 +24,11 @@ loop-k-preserved c =
     (search rules, λ xs f. holds_more xs _ _ _ _ (c.loop-k.invariant.1 xs f) (verdict-of xs f ∙ c.if-judged-eq-HOLDS.true))
 
 pub returns-else-judged-eq-HOLDS : goal.returns-else-judged-eq-HOLDS
-returns-else-judged-eq-HOLDS c =
+returns-else-judged-eq-HOLDS c xs f =
     let verdict-of : (let s = c.args in (xs : List Variable) → AllHeadsFit xs s.heads.now s.bodies.now s.m → (judge xs s.row.now (line_in s.heads.now s.bodies.now c.loop-k.k)).verdict ≡ c.judge_line-judged.result.verdict) = λ xs f. sym (ap (λ j. j.verdict) (c.judge_line-judged.ensures xs (f _ c.loop-k-test.true))) in
     one_fails xs _ _ _ _ _ c.loop-k-test.true (λ e. c.if-judged-eq-HOLDS.false (sym (verdict-of xs f) ∙ e))
 
 pub returns : goal.returns
-returns c =     let l = c.loop-k in
+returns c xs f =     let l = c.loop-k in
     let e : l.k ≡ c.args.m = omega arith in
     all_hold xs _ _ _ _ (rw e at (l.invariant.1 xs f))

@@ -15,4 +15,4 @@ pub put_slot-requires : goal.put_slot-requires
 put_slot-requires c =     (c.requires.0, c.requires.1, c.requires.2, c.requires.3, omega arith, c.requires.4, omega (arith, c.requires.5, operands_length edition10 (variables_in c.args.file.now c.args.variables.now c.args.n) c.args.heads.now c.args.bodies.now c.args.k))
 
 pub returns : goal.returns
-returns c = put_operands edition10 _ _ _ _ c.requires.5 c.put_slot-second.ensures c.put_slot-third.ensures c.put_slot-second.ensures
+returns c = put_operands edition10 _ _ _ _ c.requires.5 c.put_slot-second.ensures c.put_slot-third.ensures c.put_slot.ensures

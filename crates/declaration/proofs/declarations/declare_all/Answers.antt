@@ -52,7 +52,7 @@ returns-in-NotPut c =
 
 pub overflow_add-k : goal.overflow_add-k
 overflow_add-k c =
-    let puts : (PutHolds c.args.file.now c.args.stop c.spaces-start.result c.declare_next.new.file.variables c.loop-i.k (UpTo c.in-UpTo.end)) = rw c.in-UpTo.is at c.declare_next.ensures.1 in
+    let puts : (PutHolds c.args.file.now c.args.stop c.spaces-start.result c.declare_next.new.variables c.loop-i.k (UpTo c.in-UpTo.end)) = rw c.in-UpTo.is at c.declare_next.ensures.1 in
     omega (arith, puts)
 
 pub loop-i-smaller : goal.loop-i-smaller
@@ -61,7 +61,7 @@ loop-i-smaller c =
     let below : (c.spaces-start.result < c.args.stop) = omega (arith, scan_bounds (is_of Space) (take c.args.stop c.args.file.now) c.loop-i.i c.spaces-start.result (omega (arith, cut, c.loop-i.invariant.within)) c.spaces-start.ensures, cut) in
     let turned : (let end = past (is_of Solid) (take c.args.stop c.args.file.now) c.spaces-start.result in (c.loop-i.i < end) × (end ≤ c.args.stop)) = let w = token_within (take c.args.stop c.args.file.now) c.loop-i.i c.spaces-start.result c.spaces-start.ensures (omega (arith, below, cut)) _ refl in
     (omega (arith, w.0, w.1), omega (arith, w.2, cut)) in
-    let puts : (PutHolds c.args.file.now c.args.stop c.spaces-start.result c.declare_next.new.file.variables c.loop-i.k (UpTo c.in-UpTo.end)) = rw c.in-UpTo.is at c.declare_next.ensures.1 in
+    let puts : (PutHolds c.args.file.now c.args.stop c.spaces-start.result c.declare_next.new.variables c.loop-i.k (UpTo c.in-UpTo.end)) = rw c.in-UpTo.is at c.declare_next.ensures.1 in
     omega (arith, puts, turned)
 
 pub loop-i-preserved : goal.loop-i-preserved
@@ -71,7 +71,7 @@ loop-i-preserved c =
     let turn : (let line = (take c.args.stop c.args.file.now) in let start = c.spaces-start.result in let end = past (is_of Solid) line start in tokens_from true c.loop-i.i (drop c.loop-i.i line) ≡ token_from line start ∷ tokens_from true end (drop end line)) = tokens_turn (take c.args.stop c.args.file.now) c.loop-i.i c.spaces-start.result c.spaces-start.ensures (omega (arith, below, cut)) _ refl in
     let turned : (let end = past (is_of Solid) (take c.args.stop c.args.file.now) c.spaces-start.result in (c.loop-i.i < end) × (end ≤ c.args.stop)) = let w = token_within (take c.args.stop c.args.file.now) c.loop-i.i c.spaces-start.result c.spaces-start.ensures (omega (arith, below, cut)) _ refl in
     (omega (arith, w.0, w.1), omega (arith, w.2, cut)) in
-    let puts : (PutHolds c.args.file.now c.args.stop c.spaces-start.result c.declare_next.new.file.variables c.loop-i.k (UpTo c.in-UpTo.end)) = rw c.in-UpTo.is at c.declare_next.ensures.1 in
+    let puts : (PutHolds c.args.file.now c.args.stop c.spaces-start.result c.declare_next.new.variables c.loop-i.k (UpTo c.in-UpTo.end)) = rw c.in-UpTo.is at c.declare_next.ensures.1 in
     let d = c.declare_next.ensures in
     let h = puts in
     rw h.0 (declaring_more c.loop-i.invariant _ _ _ turn turned.1 h.1 d.2 h.2 (λ e. rw c.in-UpTo.is at (d.0 e)))

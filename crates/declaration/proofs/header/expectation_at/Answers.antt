@@ -5,15 +5,15 @@ use Rattle.declaration.proofs.header.expectation_at.Goals as goal
 
 pub returns-then-is_word : goal.returns-then-is_word
 unfolding expectation_of
-returns-then-is_word c = rw (sym c.is_IsWord.ensures ∙ c.if-is_word.true)
+returns-then-is_word c = rw (sym c.is_word.ensures ∙ c.if-is_word.true)
 
 pub returns-then-is_word-2 : goal.returns-then-is_word-2
 unfolding expectation_of
-returns-then-is_word-2 c = rw (sym c.is_IsWord.ensures ∙ c.if-is_word.false, sym c.is_word-2.ensures ∙ c.if-is_word-2.true)
+returns-then-is_word-2 c = rw (sym c.is_word.ensures ∙ c.if-is_word.false, sym c.is_word-2.ensures ∙ c.if-is_word-2.true)
 
 pub returns : goal.returns
 unfolding expectation_of
-returns c = rw (sym c.is_IsWord.ensures ∙ c.if-is_word.false, sym c.is_word-2.ensures ∙ c.if-is_word-2.false)
+returns c = rw (sym c.is_word.ensures ∙ c.if-is_word.false, sym c.is_word-2.ensures ∙ c.if-is_word-2.false)
 
 -- TODO old:
 -- slice-aggregate-is-word : tie.Need-slice-aggregate-is-word

@@ -15,11 +15,3 @@ returns-in-Sdiv c = rw c.in-Sdiv.is c.signed_quotient.ensures
 
 pub returns-in-Srem : goal.returns-in-Srem
 returns-in-Srem c = rw c.in-Srem.is c.signed_remainder.ensures
-
--- TODO old:
--- div-result : tie.Need-nonzero-div-result
--- div-result c = search rules
-
--- TODO old:
--- rem-result : tie.Need-nonzero-rem-result
--- rem-result c = search rules

@@ -10,7 +10,3 @@ returns-then-a-eq0 c = rw c.if-a-eq0.true (ceiling_zero c.args.b c.requires)
 
 pub returns-else-a-eq0 : goal.returns-else-a-eq0
 returns-else-a-eq0 c = ceiling_pos c.args.a c.args.b c.requires (omega arith)
-
--- TODO old:
--- div-result : tie.Need-nonzero-div-result
--- div-result c = search rules

@@ -27,8 +27,5 @@ returns-else-a-t c =     c.negative.ensures
     ∙ ap (λ (q : ℕ). modulo c.args.k (neg_ℤ (pos q))) (c.rounded_up.ensures ∙ ap₂ ceiling c.magnitude-x.ensures c.magnitude-y.ensures)
     ∙ sdiv_differ c.args.k c.args.a c.args.b c.requires.0.bound c.requires.0.bound₂ (rw c.top-t.ensures at c.if-a-t.false)
 
--- TODO old:
--- div-result : tie.Need-nonzero-div-result
--- div-result c =
---     let s = c.before.before.before.before in
---     rw c.before.magnitude2.ensures (magnitude_pos s.args.k s.args.b s.requires.0.bound₂ s.requires.1)
+pub nonzero_div-result : goal.nonzero_div-result
+nonzero_div-result c = rw c.magnitude-y.ensures (magnitude_pos c.args.k c.args.b c.requires.0.bound₂ c.requires.1)

@@ -5,7 +5,7 @@ use Rattle.evaluation.proofs.sums.compute.Goals as goal
 
 pub returns-in-Add : goal.returns-in-Add
 unfolding computed
-returns-in-Add c =     rw (c.in-Add.is, c.low.ensures, c.wrapping_add_u64.ensures) (mod_word c.args.k (c.args.a + c.args.b) c.requires.most)
+returns-in-Add c =     rw (c.in-Add.is, c.low.ensures, c.wrapping_add_u64.ensures.value) (mod_word c.args.k (c.args.a + c.args.b) c.requires.most)
 
 pub returns-in-Sub : goal.returns-in-Sub
 unfolding computed

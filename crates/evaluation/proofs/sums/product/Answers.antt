@@ -14,6 +14,6 @@ overflow_mul-a0-2 c = product_fits (mask_lt c.args.a 32) (mask_lt c.args.b 32)
 
 pub returns : goal.returns
 returns c =     let s = c.args in
-    c.wrapping_add_u64-middle.ensures
-    ∙ ap (λ (m : ℕ). (bit_and s.a 4294967295 * bit_and s.b 4294967295 + (m * 2 ^ 32) % 2 ^ 64) % 2 ^ 64) c.wrapping_add_u64-middle.ensures
+    c.wrapping_add_u64.ensures.value
+    ∙ ap (λ (m : ℕ). (bit_and s.a 4294967295 * bit_and s.b 4294967295 + (m * 2 ^ 32) % 2 ^ 64) % 2 ^ 64) c.wrapping_add_u64-middle.ensures.value
     ∙ low_product_of s.a s.b

@@ -10,7 +10,7 @@ use Rattle.index.proofs.OutcomeLaws.{counts_start, counts_most, starts_short, li
 use Rattle.index.proofs.building.index_held.Goals as goal
 
 pub returns-then-starts-n : goal.returns-then-starts-n
-returns-then-starts-n c = starts_short f _ _ _ _ v l _ _ _ c.refused.ensures c.if-starts-n.true
+returns-then-starts-n c f v l = starts_short f _ _ _ _ v l _ _ _ c.refused.ensures c.if-starts-n.true
 
 pub count-requires : goal.count-requires
 count-requires c = (refl, c.requires.0, c.requires.1, c.requires.3, λ q h. get_or-replicate max_variables q 0 0 h)
@@ -20,18 +20,18 @@ accumulate-end-requires c =     let a = c.count in
     (a.ensures.0, c.requires.2, counts_most c.args.heads.now c.args.bodies.now a.new.0 c.args.m a.ensures.1 c.args.n c.requires.2 c.requires.3)
 
 pub returns-then-lists-end : goal.returns-then-lists-end
-returns-then-lists-end c =
-    let end_at : (c.accumulate-end.result ≡ own_start (held_file c.args.heads.now c.args.bodies.now c.args.m) c.args.n) = c.accumulate-end.ensures.1 ∙ counts_start c.args.heads.now c.args.bodies.now c.count.new.counts.counts c.args.m c.count.ensures.1 c.args.n c.requires.2 in
+returns-then-lists-end c f v l =
+    let end_at : (c.accumulate-end.result ≡ own_start (held_file c.args.heads.now c.args.bodies.now c.args.m) c.args.n) = c.accumulate-end.ensures.1 ∙ counts_start c.args.heads.now c.args.bodies.now c.count.new.counts c.args.m c.count.ensures.1 c.args.n c.requires.2 in
     lists_short f _ _ _ _ v l _ _ c.if-starts-n.false _ c.refused-then-lists-end.ensures (omega (arith, c.if-lists-end.true, end_at))
 
 pub list_all-requires : goal.list_all-requires
 list_all-requires c =
-    let starts-at : ((q : ℕ) → q < c.args.n → get_or c.accumulate-end.new.counts q 0 ≡ own_start (held_file c.args.heads.now c.args.bodies.now c.args.m) q) = λ q h. c.accumulate-end.ensures.2 q h ∙ counts_start c.args.heads.now c.args.bodies.now c.count.new.counts.counts c.args.m c.count.ensures.1 q (omega (arith, c.requires.2)) in
-    let end_at : (c.accumulate-end.result ≡ own_start (held_file c.args.heads.now c.args.bodies.now c.args.m) c.args.n) = c.accumulate-end.ensures.1 ∙ counts_start c.args.heads.now c.args.bodies.now c.count.new.counts.counts c.args.m c.count.ensures.1 c.args.n c.requires.2 in
+    let starts-at : ((q : ℕ) → q < c.args.n → get_or c.accumulate-end.new.counts q 0 ≡ own_start (held_file c.args.heads.now c.args.bodies.now c.args.m) q) = λ q h. c.accumulate-end.ensures.2 q h ∙ counts_start c.args.heads.now c.args.bodies.now c.count.new.counts c.args.m c.count.ensures.1 q (omega (arith, c.requires.2)) in
+    let end_at : (c.accumulate-end.result ≡ own_start (held_file c.args.heads.now c.args.bodies.now c.args.m) c.args.n) = c.accumulate-end.ensures.1 ∙ counts_start c.args.heads.now c.args.bodies.now c.count.new.counts c.args.m c.count.ensures.1 c.args.n c.requires.2 in
     (c.accumulate-end.ensures.0, c.requires.0, c.requires.1, c.requires.2, c.requires.3, starts-at, omega (arith, c.if-lists-end.false, end_at))
 
 pub returns : goal.returns
-returns c =
-    let starts-at : ((q : ℕ) → q < c.args.n → get_or c.accumulate-end.new.counts q 0 ≡ own_start (held_file c.args.heads.now c.args.bodies.now c.args.m) q) = λ q h. c.accumulate-end.ensures.2 q h ∙ counts_start c.args.heads.now c.args.bodies.now c.count.new.counts.counts c.args.m c.count.ensures.1 q (omega (arith, c.requires.2)) in
-    let end_at : (c.accumulate-end.result ≡ own_start (held_file c.args.heads.now c.args.bodies.now c.args.m) c.args.n) = c.accumulate-end.ensures.1 ∙ counts_start c.args.heads.now c.args.bodies.now c.count.new.counts.counts c.args.m c.count.ensures.1 c.args.n c.requires.2 in
+returns c f v l =
+    let starts-at : ((q : ℕ) → q < c.args.n → get_or c.accumulate-end.new.counts q 0 ≡ own_start (held_file c.args.heads.now c.args.bodies.now c.args.m) q) = λ q h. c.accumulate-end.ensures.2 q h ∙ counts_start c.args.heads.now c.args.bodies.now c.count.new.counts c.args.m c.count.ensures.1 q (omega (arith, c.requires.2)) in
+    let end_at : (c.accumulate-end.result ≡ own_start (held_file c.args.heads.now c.args.bodies.now c.args.m) c.args.n) = c.accumulate-end.ensures.1 ∙ counts_start c.args.heads.now c.args.bodies.now c.count.new.counts c.args.m c.count.ensures.1 c.args.n c.requires.2 in
     index_built f _ _ _ _ v l c.args.starts.now c.args.lists.now c.if-starts-n.false (omega (arith, c.if-lists-end.false, end_at)) c.accumulate-end.new.counts c.accumulate-end.ensures.0 c.requires.2 starts-at _ _ _ end_at c.put_starts.ensures c.list_all.ensures

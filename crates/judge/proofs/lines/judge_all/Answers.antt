@@ -36,6 +36,6 @@ pub shape_of-results : goal.shape_of-results
 shape_of-results c = c.loop-i.invariant.2
 
 pub returns : goal.returns
-returns c =     let l = c.loop-i in
+returns c xs f =     let l = c.loop-i in
     let e : l.i ≡ c.args.m = omega arith in
     rw e at (l.invariant.3 xs f)

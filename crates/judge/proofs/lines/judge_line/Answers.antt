@@ -16,7 +16,7 @@ evaluate-requires c =     let h = c.requires.3 in
 
 pub returns-then-result-goal : goal.returns-then-result-goal
 unfolding line_in
-returns-then-result-goal c =
+returns-then-result-goal c xs f =
     let told : (c.evaluate.result ≡ answer c.requires.3.variables c.args.row.now (line_in c.args.heads.now c.args.bodies.now c.args.k)) = let h = c.requires.3 in
     let xs = h.variables in
     let f = h.heads_fit in
@@ -27,7 +27,7 @@ returns-then-result-goal c =
 
 pub returns-else-result-goal : goal.returns-else-result-goal
 unfolding line_in
-returns-else-result-goal c =
+returns-else-result-goal c xs f =
     let told : (c.evaluate.result ≡ answer c.requires.3.variables c.args.row.now (line_in c.args.heads.now c.args.bodies.now c.args.k)) = let h = c.requires.3 in
     let xs = h.variables in
     let f = h.heads_fit in
@@ -38,7 +38,7 @@ returns-else-result-goal c =
 
 pub returns-in-ZeroDivisor : goal.returns-in-ZeroDivisor
 unfolding line_in
-returns-in-ZeroDivisor c =
+returns-in-ZeroDivisor c xs f =
     let told : (c.evaluate.result ≡ answer c.requires.3.variables c.args.row.now (line_in c.args.heads.now c.args.bodies.now c.args.k)) = let h = c.requires.3 in
     let xs = h.variables in
     let f = h.heads_fit in

@@ -29,25 +29,25 @@ gate_numbers-requires c =
     (c.requires.0, c.requires.1, h.0, h.1)
 
 pub returns-then-through : goal.returns-then-through
-returns-then-through c =
+returns-then-through c bytes ls e =
     let room-tested : ((c : tie.After-tables-room) (bytes : List ℕ) (ls : List Line) → length ls ≡ c.args.m → gate_result c.tables_room.result ≡ tables_room ((λ bytes ls. let s = c.args in file_of (variables_in bytes s.variables.now s.n) ls) bytes ls) (room_of (let s = c.args in tables_of s.values.now s.verdicts.now s.results.now))) = λ c bytes ls e. let z = file_sized bytes _ _ ls _ e in c.tables_room.ensures ((λ bytes ls. let s = c.args in file_of (variables_in bytes s.variables.now s.n) ls) bytes ls) z.variables z.lines in
     let roomy : ((c : tie.After-enum-told) (bytes : List ℕ) (ls : List Line) → length ls ≡ c.args.m → accepted tt ≡ tables_room ((λ bytes ls. let s = c.args in file_of (variables_in bytes s.variables.now s.n) ls) bytes ls) (room_of (let s = c.args in tables_of s.values.now s.verdicts.now s.results.now))) = λ c bytes ls e. rw c.in-Pass.is at (room-tested c bytes ls e) in
     let held : ((c : tie.After-enum-told2) (bytes : List ℕ) (ls : List Line) → let s = c.args in length ls ≡ s.m → accepted tt ≡ numbers_fit ((λ bytes ls. let s = c.args in file_of (variables_in bytes s.variables.now s.n) ls) bytes ls) s.values.now s.verdicts.now (record { variable = s.i; value = s.v })) = λ c bytes ls e. rw c.in-Pass-gate_numbers.is at (c.gate_numbers.ensures bytes ls e) in
     rw c.if-through.true (gate_fitted _ _ _ _ _ (roomy c bytes ls e) (held c bytes ls e) _ (c.gate_index.ensures ∙ index_fitted _ _ _ (file_sized bytes _ _ ls _ e) _))
 
 pub returns-in-Bar : goal.returns-in-Bar
-returns-in-Bar c =
+returns-in-Bar c bytes ls e =
     let room-tested : ((c : tie.After-tables-room) (bytes : List ℕ) (ls : List Line) → length ls ≡ c.args.m → gate_result c.tables_room.result ≡ tables_room ((λ bytes ls. let s = c.args in file_of (variables_in bytes s.variables.now s.n) ls) bytes ls) (room_of (let s = c.args in tables_of s.values.now s.verdicts.now s.results.now))) = λ c bytes ls e. let z = file_sized bytes _ _ ls _ e in c.tables_room.ensures ((λ bytes ls. let s = c.args in file_of (variables_in bytes s.variables.now s.n) ls) bytes ls) z.variables z.lines in
     gate_short _ _ _ _ _ _ (rw c.in-Bar.is at (room-tested c bytes ls e))
 
 pub returns-in-Bar-gate_numbers : goal.returns-in-Bar-gate_numbers
-returns-in-Bar-gate_numbers c =
+returns-in-Bar-gate_numbers c bytes ls e =
     let room-tested : ((c : tie.After-tables-room) (bytes : List ℕ) (ls : List Line) → length ls ≡ c.args.m → gate_result c.tables_room.result ≡ tables_room ((λ bytes ls. let s = c.args in file_of (variables_in bytes s.variables.now s.n) ls) bytes ls) (room_of (let s = c.args in tables_of s.values.now s.verdicts.now s.results.now))) = λ c bytes ls e. let z = file_sized bytes _ _ ls _ e in c.tables_room.ensures ((λ bytes ls. let s = c.args in file_of (variables_in bytes s.variables.now s.n) ls) bytes ls) z.variables z.lines in
     let roomy : ((c : tie.After-enum-told) (bytes : List ℕ) (ls : List Line) → length ls ≡ c.args.m → accepted tt ≡ tables_room ((λ bytes ls. let s = c.args in file_of (variables_in bytes s.variables.now s.n) ls) bytes ls) (room_of (let s = c.args in tables_of s.values.now s.verdicts.now s.results.now))) = λ c bytes ls e. rw c.in-Pass.is at (room-tested c bytes ls e) in
     gate_barred _ _ _ _ _ _ (roomy c bytes ls e) (rw c.in-Bar-gate_numbers.is at (c.gate_numbers.ensures bytes ls e))
 
 pub returns-else-through : goal.returns-else-through
-returns-else-through c =
+returns-else-through c bytes ls e =
     let room-tested : ((c : tie.After-tables-room) (bytes : List ℕ) (ls : List Line) → length ls ≡ c.args.m → gate_result c.tables_room.result ≡ tables_room ((λ bytes ls. let s = c.args in file_of (variables_in bytes s.variables.now s.n) ls) bytes ls) (room_of (let s = c.args in tables_of s.values.now s.verdicts.now s.results.now))) = λ c bytes ls e. let z = file_sized bytes _ _ ls _ e in c.tables_room.ensures ((λ bytes ls. let s = c.args in file_of (variables_in bytes s.variables.now s.n) ls) bytes ls) z.variables z.lines in
     let roomy : ((c : tie.After-enum-told) (bytes : List ℕ) (ls : List Line) → length ls ≡ c.args.m → accepted tt ≡ tables_room ((λ bytes ls. let s = c.args in file_of (variables_in bytes s.variables.now s.n) ls) bytes ls) (room_of (let s = c.args in tables_of s.values.now s.verdicts.now s.results.now))) = λ c bytes ls e. rw c.in-Pass.is at (room-tested c bytes ls e) in
     let held : ((c : tie.After-enum-told2) (bytes : List ℕ) (ls : List Line) → let s = c.args in length ls ≡ s.m → accepted tt ≡ numbers_fit ((λ bytes ls. let s = c.args in file_of (variables_in bytes s.variables.now s.n) ls) bytes ls) s.values.now s.verdicts.now (record { variable = s.i; value = s.v })) = λ c bytes ls e. rw c.in-Pass-gate_numbers.is at (c.gate_numbers.ensures bytes ls e) in

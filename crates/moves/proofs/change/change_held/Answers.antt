@@ -94,12 +94,12 @@ slice_bounds-overall-end-in-Pass c =
     sym (length-take-le _ r.new.1.1.1.1.0 (omega (arith, within, r.auto.1.1.1.1.0)))
 
 pub returns-in-Bar : goal.returns-in-Bar
-returns-in-Bar c =
+returns-in-Bar c file f =
     let tested : ((c : tie.After-gate) (file : List ℕ) → let s = c.args in gate_result c.gate.result ≡ admitted ((λ file. let s = c.args in file_of (variables_in file s.variables.now s.n) (lines_in s.heads.now s.bodies.now s.m)) file) (tables_of s.values.now s.verdicts-1.now s.results-1.now) (changing s.i s.v (index_if s.through s.starts.now s.lists.now))) = λ c file. c.gate.ensures file _ (lines_length _ _ _) in
     change_refused _ _ _ _ (rw c.in-Bar.is at (tested c file))
 
 pub returns-in-Pass : goal.returns-in-Pass
-returns-in-Pass c =
+returns-in-Pass c file f =
     let sized : ((c : tie.After-gate) (file : List ℕ) → let s = c.args in Sized ((λ file. let s = c.args in file_of (variables_in file s.variables.now s.n) (lines_in s.heads.now s.bodies.now s.m)) file) s.n s.m) = λ c file. file_sized file _ _ _ _ (lines_length _ _ _) in
     let tested : ((c : tie.After-gate) (file : List ℕ) → let s = c.args in gate_result c.gate.result ≡ admitted ((λ file. let s = c.args in file_of (variables_in file s.variables.now s.n) (lines_in s.heads.now s.bodies.now s.m)) file) (tables_of s.values.now s.verdicts-1.now s.results-1.now) (changing s.i s.v (index_if s.through s.starts.now s.lists.now))) = λ c file. c.gate.ensures file _ (lines_length _ _ _) in
     let passed : ((c : tie.After-enum-told) (file : List ℕ) → let s = c.args in Admitted ((λ file. let s = c.args in file_of (variables_in file s.variables.now s.n) (lines_in s.heads.now s.bodies.now s.m)) file) (tables_of s.values.now s.verdicts-1.now s.results-1.now) (changing s.i s.v (index_if s.through s.starts.now s.lists.now))) = λ c file. admitted_passed _ _ _ (sym (rw c.in-Pass.is at (tested c file))) in

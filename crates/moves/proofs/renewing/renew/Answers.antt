@@ -47,6 +47,6 @@ pub shape_of-results : goal.shape_of-results
 shape_of-results c = c.loop-k.invariant.2
 
 pub returns : goal.returns
-returns c =     let l = c.loop-k in
+returns c xs f =     let l = c.loop-k in
     let e : l.k ≡ c.args.m = omega arith in
     named_end xs _ _ _ _ _ _ _ _ _ (rw e at (l.invariant.5 xs f))

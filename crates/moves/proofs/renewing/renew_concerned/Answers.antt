@@ -51,12 +51,12 @@ renew_listed-requires c =
     (c.requires.0, c.requires.1, c.requires.2, c.requires.3, c.requires.4, part_fits _ _ _ fitting, c.requires.6)
 
 pub returns-then-through : goal.returns-then-through
-returns-then-through c =
+returns-then-through c xs f =
     let fitting : (let s = c.args in ListFitting s.m (index_of s.starts.now s.lists.now) s.i) = c.requires.5 c.if-through.true in
     rw (c.if-through.true, ← part_listed _ _ _ fitting) (c.renew_listed.ensures xs f)
 
 pub returns : goal.returns
-returns c = rw c.if-through.false (c.renew.ensures xs f)
+returns c xs f = rw c.if-through.false (c.renew.ensures xs f)
 
 -- TODO old:
 -- part-renew-listed-start : tie.Need-slice-bounds-renew-listed-start

@@ -16,7 +16,7 @@ pub put_count-requires : goal.put_count-requires
 put_count-requires c =     omega (arith, c.requires, refusal_length c.args.refusal)
 
 pub returns : goal.returns
-returns c =     put_refusal c.args.refusal c.requires c.put_count-numbered.ensures c.put_byte-word.ensures c.put_subject-named.ensures c.put_count-numbered.ensures
+returns c =     put_refusal c.args.refusal c.requires c.put_count-numbered.ensures c.put_byte-word.ensures c.put_subject-named.ensures c.put_count.ensures
 
 -- TODO old:
 -- slice-aggregate-put-count : tie.Need-slice-aggregate-put-count

@@ -38,7 +38,7 @@ returns-in-Stop c =
     let e = c.read_any_line-added.ensures in
     let next = c.stop-1.given.0.1.0 in
     let step = sym c.advance.ensures ∙ c.in-Stop.is in
-    (reading_stops Constraint read_line empty_file c.args.file.now c.loop-i.invariant.0 c.loop-i-test.true c.in-Ends.stop next line c.in-Stop.r (rw step at (e.0 next)), e.1, tt, tt, tt)
+    (reading_stops Constraint read_line empty_file c.args.file.now c.loop-i.invariant.0 c.loop-i-test.true c.in-Ends.stop next line c.in-Stop.c (rw step at (e.0 next)), e.1, tt, tt, tt)
 
 pub loop-i-smaller : goal.loop-i-smaller
 loop-i-smaller c =

@@ -5,8 +5,8 @@ use Rattle.spelling.proofs.symbols.extension_symbol.Goals as goal
 
 pub returns-in-Sext : goal.returns-in-Sext
 unfolding spelling_of spelling_in spellings bitwise_spellings predicate_spellings arithmetic_spellings shift_and_cast_spellings operator_number bitwise_number comparison_number arithmetic_number division_number shift_number extension_number
-returns-in-Sext c = rw c.in-Sext.is c.made_of.ensures
+returns-in-Sext c e = rw c.in-Sext.is c.made_of.ensures
 
 pub returns-in-Zext : goal.returns-in-Zext
 unfolding spelling_of spelling_in spellings bitwise_spellings predicate_spellings arithmetic_spellings shift_and_cast_spellings operator_number bitwise_number comparison_number arithmetic_number division_number shift_number extension_number
-returns-in-Zext c = rw c.in-Zext.is c.made_of-in-Zext.ensures
+returns-in-Zext c e = rw c.in-Zext.is c.made_of-in-Zext.ensures

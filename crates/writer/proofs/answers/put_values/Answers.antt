@@ -22,4 +22,4 @@ pub returns : goal.returns
 returns c =     let some = c.if-n-eq0.false in
     let first = c.put_byte-first.ensures in
     let values = c.put_settings-end.ensures in
-    put_values _ _ _ _ some c.requires.2 first values c.put_byte-first.ensures
+    put_values _ _ _ _ some c.requires.2 first values c.put_byte.ensures
