@@ -6,7 +6,7 @@ use Rattle.edition.specs.declared.Edition.{Edition}
 use Rattle.edition.specs.Edition.{edition_numbered, max_variables, max_lines, max_name_bytes, is_width}
 use Rattle.refusal.specs.declared.Refusal.{Refusal}
 use Rattle.refusal.specs.declared.Subject.TheVariants.{Constraint}
-use Rattle.refusal.specs.Numbers.{unknown_line, misplaced_line, wrong_version, wrong_expectation, misspelt, not_aWidth, number_too_large, over_limit, name_taken, not_declared, unknown_operator, type_rule_broken}
+use Rattle.refusal.specs.Numbers.{unknown_line, misplaced_line, wrong_version, wrong_expectation, misspelt, not_a_width, number_too_large, over_limit, name_taken, not_declared, unknown_operator, type_rule_broken}
 use Rattle.refusal.specs.Lists.{is_there}
 use Rattle.refusal.specs.Result.{Result, accepted, refused, refusal, ensure, given, ◌>>=◌, ◌>>◌}
 use Rattle.refusal.specs.SubjectWords.{ascii}
@@ -78,7 +78,7 @@ declare e xs t = do
   let name = up_to (code ":") t.bytes
   let type = behind (code ":") t.bytes
   ensure (is_name name && is_type type) (in_constraint t misspelt)
-  ensure (is_width (type_width type)) (in_constraint t not_aWidth)
+  ensure (is_width (type_width type)) (in_constraint t not_a_width)
   ensure (leb (length name) max_name_bytes && ltb (length xs) max_variables) (in_constraint t over_limit)
   ensure (not (is_reserved e name) && not (is_there (variable_named name xs))) (in_constraint t name_taken)
   accepted (record { name = name; width = type_width type })
@@ -110,7 +110,7 @@ read_constant t = do
   let number = up_to (code ":") t.bytes
   let type = behind (code ":") t.bytes
   ensure (is_numeral max_digits number && is_type type) (in_constraint t misspelt)
-  ensure (is_width (type_width type)) (in_constraint t not_aWidth)
+  ensure (is_width (type_width type)) (in_constraint t not_a_width)
   ensure (ltb (decimal number) number_bound) (in_constraint t number_too_large)
   accepted (Const (record { width = type_width type; value = decimal number % 2 ^ type_width type }))
 

@@ -1,6 +1,6 @@
 -- Which numbers the refusals of a constraint file have.
 use Rattle.std.specs.Prelude.{ℕ, List, [], ◌∷◌}
-use Rattle.refusal.specs.Numbers.{file_too_long, byte_not_allowed, unknown_line, misplaced_line, wrong_version, wrong_expectation, token_count, misspelt, not_aWidth, number_too_large, over_limit, name_taken, not_declared, unknown_operator, type_rule_broken}
+use Rattle.refusal.specs.Numbers.{file_too_long, byte_not_allowed, unknown_line, misplaced_line, wrong_version, wrong_expectation, token_count, misspelt, not_a_width, number_too_large, over_limit, name_taken, not_declared, unknown_operator, type_rule_broken}
 
 -- 1 to 15
 unfoldable pub constraint_numbers : List ℕ
@@ -13,7 +13,7 @@ constraint_numbers =
     ∷ wrong_expectation
     ∷ token_count
     ∷ misspelt
-    ∷ not_aWidth
+    ∷ not_a_width
     ∷ number_too_large
     ∷ over_limit
     ∷ name_taken

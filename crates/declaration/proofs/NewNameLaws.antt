@@ -11,7 +11,7 @@ use lib.ListN.{length, get_or, take, drop, length-drop}
 use borrow.Author.Tests.{le-leb, lt-leb, lt-ltb, le-ltb, leb-true, ltb-true, eqb-true}
 use Rattle.edition.specs.declared.Edition.{Edition}
 use Rattle.edition.specs.Edition.{max_variables, max_name_bytes, max_width, is_width}
-use Rattle.refusal.specs.Numbers.{misspelt, not_aWidth, over_limit, name_taken}
+use Rattle.refusal.specs.Numbers.{misspelt, not_a_width, over_limit, name_taken}
 use Rattle.refusal.specs.Lists.{every, is_there}
 use Rattle.refusal.specs.Result.{accepted, refused, ensure, ◌>>◌}
 use Rattle.refusal.proofs.BoolLaws.{and_true, and_false}
@@ -65,7 +65,7 @@ module _ (e : Edition) (xs : List Variable) (text : List ℕ) (start k n : ℕ) 
 -- the tests, whatever they say
 split : (t : Token) (name : List ℕ) (k : ℕ) (type width small free : Bool) → declaration_result t name (declaration_of (cond type (cond width (Width k) NoWidth) NoType) (λ k. cond small (cond free (Fresh k) (Faulty name_taken)) (Faulty over_limit))) ≡ (do
   ensure type (in_constraint t misspelt)
-  ensure width (in_constraint t not_aWidth)
+  ensure width (in_constraint t not_a_width)
   ensure small (in_constraint t over_limit)
   ensure free (in_constraint t name_taken)
   accepted (record { name = name; width = k }))

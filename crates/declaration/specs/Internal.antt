@@ -4,7 +4,7 @@ use Rattle.std.proofs.Math.Option.{Option, none, some}
 use Rattle.edition.specs.declared.Edition.{Edition}
 use Rattle.edition.specs.Edition.{edition_numbered, max_variables, max_name_bytes}
 use Rattle.refusal.specs.declared.Subject.TheVariants.{Constraint}
-use Rattle.refusal.specs.Numbers.{wrong_version, wrong_expectation, misspelt, not_aWidth, over_limit, name_taken}
+use Rattle.refusal.specs.Numbers.{wrong_version, wrong_expectation, misspelt, not_a_width, over_limit, name_taken}
 use Rattle.refusal.specs.Lists.{is_there}
 use Rattle.refusal.specs.Result.{Result, accepted, refused, ◌>>◌, ◌>>=◌}
 use Rattle.text.specs.declared.Number.{Number}
@@ -52,7 +52,7 @@ new_name e xs name k =
 -- a declaration by its type, and by what is said of its name with a width
 abbrev pub declaration_of : TypeRead → (ℕ → Declaration) → Declaration
 declaration_of NoType new = Faulty misspelt
-declaration_of NoWidth new = Faulty not_aWidth
+declaration_of NoWidth new = Faulty not_a_width
 declaration_of (Width k) new = new k
 
 -- the variables with the one that a token declares

@@ -11,7 +11,7 @@ use borrow.Author.Tests.{eqb-true}
 use Rattle.edition.specs.Edition.{is_width}
 use Rattle.refusal.specs.Lists.{every}
 use Rattle.refusal.proofs.BoolLaws.{and_one, and_false, fails}
-use Rattle.refusal.specs.Numbers.{misspelt, not_aWidth, number_too_large}
+use Rattle.refusal.specs.Numbers.{misspelt, not_a_width, number_too_large}
 use Rattle.refusal.specs.Result.{accepted, refused, ensure, ◌>>◌}
 use Rattle.text.specs.Bytes.{front_of, is_digit, is_letter}
 use Rattle.text.specs.Lines.{Token}
@@ -59,7 +59,7 @@ constant_head_fits xs (Value v) (Width k) = constant_fits xs (k % variable_mark)
 -- the tests, whatever they say
 constant_split : (t : Token) (v k : ℕ) (numeral type width below : Bool) → is_width k ≡ width → operand_result t (constant_of (cond numeral (cond below (Value v) TooBig) Misspelt) (cond type (cond width (Width k) NoWidth) NoType)) ≡ (do
   ensure (numeral && type) (in_constraint t misspelt)
-  ensure width (in_constraint t not_aWidth)
+  ensure width (in_constraint t not_a_width)
   ensure below (in_constraint t number_too_large)
   accepted (Const (record { width = k; value = v % 2 ^ k })))
 constant_split t v k true true true true e = ap accepted (constant_back k (v % 2 ^ k) e)

@@ -1,6 +1,6 @@
 -- What the results of this crate's functions mean, in terms of the definitions.
 use Rattle.std.specs.Prelude.{ℕ, ◌%◌, ◌^◌, ◌≤◌, true, List, length, take, drop}
-use Rattle.refusal.specs.Numbers.{misspelt, not_aWidth, number_too_large}
+use Rattle.refusal.specs.Numbers.{misspelt, not_a_width, number_too_large}
 use Rattle.refusal.specs.Result.{Result, accepted, refused, ◌>>=◌, ◌>>◌}
 use Rattle.text.specs.declared.Number.{Number}
 use Rattle.text.specs.declared.Number.TheVariants.{Value, TooBig, Misspelt}
@@ -28,10 +28,10 @@ operand_result t (Bad number) = refused (in_constraint t number)
 abbrev pub constant_of : Number → TypeRead → OperandRead
 constant_of Misspelt type = Bad misspelt
 constant_of TooBig NoType = Bad misspelt
-constant_of TooBig NoWidth = Bad not_aWidth
+constant_of TooBig NoWidth = Bad not_a_width
 constant_of TooBig (Width k) = Bad number_too_large
 constant_of (Value v) NoType = Bad misspelt
-constant_of (Value v) NoWidth = Bad not_aWidth
+constant_of (Value v) NoWidth = Bad not_a_width
 constant_of (Value v) (Width k) = Good (head_width k) (v % 2 ^ k)
 
 -- the next operand, and the tokens from a place on

@@ -3,7 +3,7 @@ use Prim.Native.Nat.{ℕ}
 use mathlib.Core.Path.{◌≡◌, refl}
 use mathlib.Core.Bool.{true, false}
 use mathlib.Core.Option.{Option, none, some}
-use Rattle.refusal.specs.Numbers.{not_aWidth, type_rule_broken, value_does_not_fit}
+use Rattle.refusal.specs.Numbers.{not_a_width, type_rule_broken, value_does_not_fit}
 use Rattle.arithmetic.specs.declared.Operator.{Operator}
 use Rattle.arithmetic.specs.declared.Word.{Word}
 use Rattle.arithmetic.specs.Rules.{widths_hold, typed, operands_fit}
@@ -26,7 +26,7 @@ passed_meaning (some r) = refl
 passed_meaning none = refl
 
 module _ (op : Operator) (k : ℕ) (a b c : Word) where
-  pub no_width : widths_hold op k a b c ≡ false → Refused (of_call not_aWidth) ≡ apply_outcome op k a b c
+  pub no_width : widths_hold op k a b c ≡ false → Refused (of_call not_a_width) ≡ apply_outcome op k a b c
   unfolding applying
   no_width w = rw w
 

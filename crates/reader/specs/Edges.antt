@@ -2,7 +2,7 @@
 use Rattle.std.specs.Prelude.{ℕ, ◌≡◌, List, [], ◌∷◌, map}
 use Prim.Native.String.{String}
 use Rattle.refusal.specs.declared.Subject.TheVariants.{Constraint}
-use Rattle.refusal.specs.Numbers.{byte_not_allowed, misplaced_line, token_count, misspelt, not_aWidth, number_too_large, unknown_operator, type_rule_broken}
+use Rattle.refusal.specs.Numbers.{byte_not_allowed, misplaced_line, token_count, misspelt, not_a_width, number_too_large, unknown_operator, type_rule_broken}
 use Rattle.refusal.specs.Result.{accepted, refusal}
 use Rattle.refusal.specs.SubjectWords.{ascii}
 use Rattle.constraint.specs.declared.Operand.TheVariants.{Const}
@@ -29,8 +29,8 @@ edges =
     ∷ read "v 1.0\nd a:i64\np = a 18446744073709551615:i64\n" 1 1
     ∷ refused_at "v 1.0\nd a:i64\np = a 18446744073709551616:i64\n" number_too_large 20
     ∷ read "v 1.0\nd a:i64\n" 1 0
-    ∷ refused_at "v 1.0\nd a:i65\n" not_aWidth 8
-    ∷ refused_at "v 1.0\nd a:i0\n" not_aWidth 8
+    ∷ refused_at "v 1.0\nd a:i65\n" not_a_width 8
+    ∷ refused_at "v 1.0\nd a:i0\n" not_a_width 8
     ∷ refused_at "v 1.0\nd a:i08\n" misspelt 8
     ∷ refused_at "v 1.0\nd a:i8 b:i8\np + a b\n" type_rule_broken 20
     ∷ refused_at "v 1.0\nd a:i8\np != a a\n" unknown_operator 15

@@ -34,8 +34,8 @@ abbrev pub misspelt : ℕ
 misspelt = 8
 
 -- "K not 1 to 64"
-abbrev pub not_aWidth : ℕ
-not_aWidth = 9
+abbrev pub not_a_width : ℕ
+not_a_width = 9
 
 -- "number 2^64 or more"
 abbrev pub number_too_large : ℕ

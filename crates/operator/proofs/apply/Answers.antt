@@ -16,19 +16,19 @@ pub returns-then-not-typed : goal.returns-then-not-typed
 returns-then-not-typed c =
     let has-widths : (let s = c.args in widths_hold s.op s.k s.a s.b s.c ≡ true) = (sym c.widths_hold.ensures ∙ c.if-not-widths_hold.false) in
     let s = c.args in
-    c.refused-then-not-typed.ensures ∙ rule_broken s.op s.k s.a s.b s.c has-widths ((sym c.type-inv.ensures ∙ c.if-not-typed.true))
+    c.refused-then-not-typed.ensures ∙ rule_broken s.op s.k s.a s.b s.c has-widths ((sym c.typed.ensures ∙ c.if-not-typed.true))
 
 pub returns-then-not-operands_fit : goal.returns-then-not-operands_fit
 returns-then-not-operands_fit c =
     let has-widths : (let s = c.args in widths_hold s.op s.k s.a s.b s.c ≡ true) = (sym c.widths_hold.ensures ∙ c.if-not-widths_hold.false) in
-    let is-typed : (let s = c.args in typed s.op s.k s.a s.b s.c ≡ true) = (sym c.type-inv.ensures ∙ c.if-not-typed.false) in
+    let is-typed : (let s = c.args in typed s.op s.k s.a s.b s.c ≡ true) = (sym c.typed.ensures ∙ c.if-not-typed.false) in
     let s = c.args in
     c.refused-then-not-operands_fit.ensures ∙ too_large s.op s.k s.a s.b s.c has-widths is-typed ((sym c.operands_fit.ensures ∙ c.if-not-operands_fit.true))
 
 pub evaluate-requires : goal.evaluate-requires
 evaluate-requires c =
     let has-widths : (let s = c.args in widths_hold s.op s.k s.a s.b s.c ≡ true) = (sym c.widths_hold.ensures ∙ c.if-not-widths_hold.false) in
-    let is-typed : (let s = c.args in typed s.op s.k s.a s.b s.c ≡ true) = (sym c.type-inv.ensures ∙ c.if-not-typed.false) in
+    let is-typed : (let s = c.args in typed s.op s.k s.a s.b s.c ≡ true) = (sym c.typed.ensures ∙ c.if-not-typed.false) in
     let has-values : (let s = c.args in operands_fit s.op s.a s.b s.c ≡ true) = (sym c.operands_fit.ensures ∙ c.if-not-operands_fit.false) in
     let s = c.args in
     evaluable s.op s.k s.a s.b s.c has-widths is-typed has-values
@@ -36,17 +36,17 @@ evaluate-requires c =
 pub returns-in-Value : goal.returns-in-Value
 returns-in-Value c =
     let has-widths : (let s = c.args in widths_hold s.op s.k s.a s.b s.c ≡ true) = (sym c.widths_hold.ensures ∙ c.if-not-widths_hold.false) in
-    let is-typed : (let s = c.args in typed s.op s.k s.a s.b s.c ≡ true) = (sym c.type-inv.ensures ∙ c.if-not-typed.false) in
+    let is-typed : (let s = c.args in typed s.op s.k s.a s.b s.c ≡ true) = (sym c.typed.ensures ∙ c.if-not-typed.false) in
     let has-values : (let s = c.args in operands_fit s.op s.a s.b s.c ≡ true) = (sym c.operands_fit.ensures ∙ c.if-not-operands_fit.false) in
-    let passed_on : (let s = c.args in passed_on c.evaluate.result ≡ apply_outcome s.op s.k s.a s.b s.c) = let s = c.args in
+    let said : (let s = c.args in passed_on c.evaluate.result ≡ apply_outcome s.op s.k s.a s.b s.c) = let s = c.args in
     ap passed_on c.evaluate.ensures ∙ taken s.op s.k s.a s.b s.c has-widths is-typed has-values in
-    sym (ap passed_on c.in-Value.is) ∙ passed_on
+    sym (ap passed_on c.in-Value.is) ∙ said
 
 pub returns-in-ZeroDivisor : goal.returns-in-ZeroDivisor
 returns-in-ZeroDivisor c =
     let has-widths : (let s = c.args in widths_hold s.op s.k s.a s.b s.c ≡ true) = (sym c.widths_hold.ensures ∙ c.if-not-widths_hold.false) in
-    let is-typed : (let s = c.args in typed s.op s.k s.a s.b s.c ≡ true) = (sym c.type-inv.ensures ∙ c.if-not-typed.false) in
+    let is-typed : (let s = c.args in typed s.op s.k s.a s.b s.c ≡ true) = (sym c.typed.ensures ∙ c.if-not-typed.false) in
     let has-values : (let s = c.args in operands_fit s.op s.a s.b s.c ≡ true) = (sym c.operands_fit.ensures ∙ c.if-not-operands_fit.false) in
-    let passed_on : (let s = c.args in passed_on c.evaluate.result ≡ apply_outcome s.op s.k s.a s.b s.c) = let s = c.args in
+    let said : (let s = c.args in passed_on c.evaluate.result ≡ apply_outcome s.op s.k s.a s.b s.c) = let s = c.args in
     ap passed_on c.evaluate.ensures ∙ taken s.op s.k s.a s.b s.c has-widths is-typed has-values in
-    sym (ap passed_on c.in-ZeroDivisor.is) ∙ passed_on
+    sym (ap passed_on c.in-ZeroDivisor.is) ∙ said
