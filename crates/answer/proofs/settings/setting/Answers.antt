@@ -52,19 +52,19 @@ setting_of-requires c =
 pub returns-in-Misspelt : goal.returns-in-Misspelt
 returns-in-Misspelt c =
     let letter : (let a = c.args in is_letter (get_or a.line.now a.at 0) ≡ true) = (sym c.is_letter.ensures ∙ c.if-not-is_letter.false) in
-    let said : ((c : tie.After-value-at) (number : Number) → c.value_at-value.result.number ≡ number → let a = c.args in setting_result (token_from a.line.now a.at) (setting_by true number (setting_named (variables_in c.args.file.now c.args.variables.now c.args.n) (drop a.at (take c.name_at-name.result.stop a.line.now)) c.value_at-value.result.stop)) ≡ setting_of (variables_in c.args.file.now c.args.variables.now c.args.n) (token_from a.line.now a.at)) = λ c number k. setting_read c.args.line.now c.args.at _ (omega (arith, c.requires.0)) c.name_at-name.ensures.0 (variables_in c.args.file.now c.args.variables.now c.args.n) _ true number (sym (name_whole c.args.line.now c.args.at c.requires.0 letter _ c.name_at-name.ensures.0)) (sym k ∙ c.value_at-value.ensures.0) in
-    (said c Misspelt c.in-Misspelt.is, tt)
+    let said : ((number : Number) → c.value_at-value.result.number ≡ number → let a = c.args in setting_result (token_from a.line.now a.at) (setting_by true number (setting_named (variables_in c.args.file.now c.args.variables.now c.args.n) (drop a.at (take c.name_at-name.result.stop a.line.now)) c.value_at-value.result.stop)) ≡ setting_of (variables_in c.args.file.now c.args.variables.now c.args.n) (token_from a.line.now a.at)) = λ number k. setting_read c.args.line.now c.args.at _ (omega (arith, c.requires.0)) c.name_at-name.ensures.0 (variables_in c.args.file.now c.args.variables.now c.args.n) _ true number (sym (name_whole c.args.line.now c.args.at c.requires.0 letter _ c.name_at-name.ensures.0)) (sym k ∙ c.value_at-value.ensures.0) in
+    (said Misspelt c.in-Misspelt.is, tt)
 
 pub returns-in-TooBig : goal.returns-in-TooBig
 returns-in-TooBig c =
     let letter : (let a = c.args in is_letter (get_or a.line.now a.at 0) ≡ true) = (sym c.is_letter.ensures ∙ c.if-not-is_letter.false) in
-    let said : ((c : tie.After-value-at) (number : Number) → c.value_at-value.result.number ≡ number → let a = c.args in setting_result (token_from a.line.now a.at) (setting_by true number (setting_named (variables_in c.args.file.now c.args.variables.now c.args.n) (drop a.at (take c.name_at-name.result.stop a.line.now)) c.value_at-value.result.stop)) ≡ setting_of (variables_in c.args.file.now c.args.variables.now c.args.n) (token_from a.line.now a.at)) = λ c number k. setting_read c.args.line.now c.args.at _ (omega (arith, c.requires.0)) c.name_at-name.ensures.0 (variables_in c.args.file.now c.args.variables.now c.args.n) _ true number (sym (name_whole c.args.line.now c.args.at c.requires.0 letter _ c.name_at-name.ensures.0)) (sym k ∙ c.value_at-value.ensures.0) in
-    (said c TooBig c.in-TooBig.is, tt)
+    let said : ((number : Number) → c.value_at-value.result.number ≡ number → let a = c.args in setting_result (token_from a.line.now a.at) (setting_by true number (setting_named (variables_in c.args.file.now c.args.variables.now c.args.n) (drop a.at (take c.name_at-name.result.stop a.line.now)) c.value_at-value.result.stop)) ≡ setting_of (variables_in c.args.file.now c.args.variables.now c.args.n) (token_from a.line.now a.at)) = λ number k. setting_read c.args.line.now c.args.at _ (omega (arith, c.requires.0)) c.name_at-name.ensures.0 (variables_in c.args.file.now c.args.variables.now c.args.n) _ true number (sym (name_whole c.args.line.now c.args.at c.requires.0 letter _ c.name_at-name.ensures.0)) (sym k ∙ c.value_at-value.ensures.0) in
+    (said TooBig c.in-TooBig.is, tt)
 
 pub returns-in-Value : goal.returns-in-Value
 returns-in-Value c =
     let letter : (let a = c.args in is_letter (get_or a.line.now a.at 0) ≡ true) = (sym c.is_letter.ensures ∙ c.if-not-is_letter.false) in
-    let said : ((c : tie.After-value-at) (number : Number) → c.value_at-value.result.number ≡ number → let a = c.args in setting_result (token_from a.line.now a.at) (setting_by true number (setting_named (variables_in c.args.file.now c.args.variables.now c.args.n) (drop a.at (take c.name_at-name.result.stop a.line.now)) c.value_at-value.result.stop)) ≡ setting_of (variables_in c.args.file.now c.args.variables.now c.args.n) (token_from a.line.now a.at)) = λ c number k. setting_read c.args.line.now c.args.at _ (omega (arith, c.requires.0)) c.name_at-name.ensures.0 (variables_in c.args.file.now c.args.variables.now c.args.n) _ true number (sym (name_whole c.args.line.now c.args.at c.requires.0 letter _ c.name_at-name.ensures.0)) (sym k ∙ c.value_at-value.ensures.0) in
+    let said : ((number : Number) → c.value_at-value.result.number ≡ number → let a = c.args in setting_result (token_from a.line.now a.at) (setting_by true number (setting_named (variables_in c.args.file.now c.args.variables.now c.args.n) (drop a.at (take c.name_at-name.result.stop a.line.now)) c.value_at-value.result.stop)) ≡ setting_of (variables_in c.args.file.now c.args.variables.now c.args.n) (token_from a.line.now a.at)) = λ number k. setting_read c.args.line.now c.args.at _ (omega (arith, c.requires.0)) c.name_at-name.ensures.0 (variables_in c.args.file.now c.args.variables.now c.args.n) _ true number (sym (name_whole c.args.line.now c.args.at c.requires.0 letter _ c.name_at-name.ensures.0)) (sym k ∙ c.value_at-value.ensures.0) in
     let stops : (c.value_at-value.result.stop ≡ past (is_of Solid) c.args.line.now c.args.at) = rw c.in-Value.is at c.value_at-value.ensures.1 ∙ setting_stop c.args.line.now c.args.at _ (omega (arith, c.requires.0)) c.name_at-name.ensures.0 in
     let a = c.args in
-    (ap (setting_result (token_from a.line.now a.at)) c.setting_of.ensures.0 ∙ said c (Value _) c.in-Value.is, rw stops at c.setting_of.ensures.1)
+    (ap (setting_result (token_from a.line.now a.at)) c.setting_of.ensures.0 ∙ said (Value _) c.in-Value.is, rw stops at c.setting_of.ensures.1)

@@ -91,7 +91,7 @@ add-requires c =
     let bounds : (let colon = c.name_at-name.result.stop in (c.args.at ≤ colon) × (colon ≤ c.args.stop) × (length (take colon (take c.args.stop c.args.file.now)) ≡ colon)) = let b = name_bounds (take c.args.stop c.args.file.now) c.args.at starts letter c.name_at-name.result.stop c.name_at-name.ensures.0 in
     (omega (arith, b.0), omega (arith, b.1, cut), length-take-le c.name_at-name.result.stop (take c.args.stop c.args.file.now) b.1) in
     let fresh : (FreshName (variables_in c.args.file.now c.args.variables.now c.args.n) (drop c.args.at (take c.name_at-name.result.stop (take c.args.stop c.args.file.now))) c.type_at-found.result.kind c.in-Fresh.width) = fresh_is edition10 (variables_in c.args.file.now c.args.variables.now c.args.n) (drop c.args.at (take c.name_at-name.result.stop (take c.args.stop c.args.file.now))) _ _ (rw c.in-Fresh.is at (c.declare.ensures edition10)) in
-    let narrow : (c.in-Fresh.width ≤ max_width) = width_fits _ _ c.type_at-found.ensures.0 _ fresh.type_inv in
+    let narrow : (c.in-Fresh.width ≤ max_width) = width_fits _ _ c.type_at-found.ensures.0 _ fresh.typed in
     let fits : ((c.args.n < max_variables) × (c.args.at < length_unit) × (c.name_at-name.result.stop - c.args.at ≤ max_name_bytes)) = let b = bounds in
     put_fits c.args.file.now c.args.stop c.args.at c.name_at-name.result.stop c.requires.0 b.0 b.1 c.requires.1 c.requires.2 c.args.variables.now c.args.n _ 0 _ c.requires.5 c.requires.4 fresh in
     let f = fits in
@@ -114,8 +114,8 @@ returns-in-Fresh c =
     (omega (arith, b.0), omega (arith, b.1, cut), length-take-le c.name_at-name.result.stop (take c.args.stop c.args.file.now) b.1) in
     let says : ((e : Edition) → declaration_result (token_from (take c.args.stop c.args.file.now) c.args.at) (drop c.args.at (take c.name_at-name.result.stop (take c.args.stop c.args.file.now))) c.declare.result ≡ declare e (variables_in c.args.file.now c.args.variables.now c.args.n) (token_from (take c.args.stop c.args.file.now) c.args.at)) = λ e. rw (c.declare.ensures e) (declared_by e (variables_in c.args.file.now c.args.variables.now c.args.n) (take c.args.stop c.args.file.now) c.args.at starts letter c.name_at-name.result.stop c.name_at-name.ensures.0 _ c.type_at-found.ensures.0) in
     let fresh : (FreshName (variables_in c.args.file.now c.args.variables.now c.args.n) (drop c.args.at (take c.name_at-name.result.stop (take c.args.stop c.args.file.now))) c.type_at-found.result.kind c.in-Fresh.width) = fresh_is edition10 (variables_in c.args.file.now c.args.variables.now c.args.n) (drop c.args.at (take c.name_at-name.result.stop (take c.args.stop c.args.file.now))) _ _ (rw c.in-Fresh.is at (c.declare.ensures edition10)) in
-    let narrow : (c.in-Fresh.width ≤ max_width) = width_fits _ _ c.type_at-found.ensures.0 _ fresh.type_inv in
-    let ends : (c.type_at-found.result.stop ≡ past (is_of Solid) (take c.args.stop c.args.file.now) c.args.at) = rw fresh.type_inv at c.type_at-found.ensures.1 ∙ strict_on (is_of NameByte) (is_of Solid) name_solid (take c.args.stop c.args.file.now) c.args.at c.name_at-name.result.stop (omega (arith, starts)) c.name_at-name.ensures.0 in
+    let narrow : (c.in-Fresh.width ≤ max_width) = width_fits _ _ c.type_at-found.ensures.0 _ fresh.typed in
+    let ends : (c.type_at-found.result.stop ≡ past (is_of Solid) (take c.args.stop c.args.file.now) c.args.at) = rw fresh.typed at c.type_at-found.ensures.1 ∙ strict_on (is_of NameByte) (is_of Solid) name_solid (take c.args.stop c.args.file.now) c.args.at c.name_at-name.result.stop (omega (arith, starts)) c.name_at-name.ensures.0 in
     let fits : ((c.args.n < max_variables) × (c.args.at < length_unit) × (c.name_at-name.result.stop - c.args.at ≤ max_name_bytes)) = let b = bounds in
     put_fits c.args.file.now c.args.stop c.args.at c.name_at-name.result.stop c.requires.0 b.0 b.1 c.requires.1 c.requires.2 c.args.variables.now c.args.n _ 0 _ c.requires.5 c.requires.4 fresh in
     let b = bounds in

@@ -39,13 +39,13 @@ place_part-requires c =     (c.requires.1, c.requires.2, c.loop-slot.invariant.i
 
 pub returns-in-NotRead : goal.returns-in-NotRead
 returns-in-NotRead c =
-    let starts : ((c : tie.At-loop invariant-loop decreases-loop) (f : File) (next : ℕ) → let l = line_at c.args.line.now c.args.at next in length f.lines ≡ c.args.m → left_to_read f l c.first_slot-slot.result 3 c.args.at (line_in c.clear_operands.new.heads c.args.bodies.now c.args.m) (tokens_from true (c.args.at + 1) (drop (c.args.at + 1) c.args.line.now)) ≡ read_statement c.args.form f l) = λ c f next q. let e = c.clear_operands.ensures.1 in
+    let starts : ((f : File) (next : ℕ) → let l = line_at c.args.line.now c.args.at next in length f.lines ≡ c.args.m → left_to_read f l c.first_slot-slot.result 3 c.args.at (line_in c.clear_operands.new.heads c.args.bodies.now c.args.m) (tokens_from true (c.args.at + 1) (drop (c.args.at + 1) c.args.line.now)) ≡ read_statement c.args.form f l) = λ f next q. let e = c.clear_operands.ensures.1 in
     let room = c.if-m-ge-LINES.false in
     rw c.first_slot-slot.ensures (statement_starts c.args.form f c.args.line.now c.args.at next c.args.m 3 c.args.at _ q room (rw (e, line_cleared c.args.heads.now c.args.bodies.now c.args.m c.requires.3 room))) in
     let cleared-kept : (LinesKept c.args.heads.now c.args.bodies.now c.clear_operands.new.heads c.args.bodies.now c.args.m) = rw c.clear_operands.ensures.1 (kept_cleared c.args.heads.now c.args.bodies.now c.args.m) in
     let r = c.place_part.ensures in
     let i = c.loop-slot.invariant in
-    (λ f next v q. rw c.in-NotRead.is at (r.0 f c.args.at next v (omega arith) i.blank) ∙ i.left f next v ∙ starts c f next q, kept_on cleared-kept (kept_on i.kept r.1), tt, r.4, r.5)
+    (λ f next v q. rw c.in-NotRead.is at (r.0 f c.args.at next v (omega arith) i.blank) ∙ i.left f next v ∙ starts f next q, kept_on cleared-kept (kept_on i.kept r.1), tt, r.4, r.5)
 
 pub overflow_add-slot : goal.overflow_add-slot
 overflow_add-slot c = let i = c.loop-slot.invariant.in_line.most in omega arith
@@ -74,7 +74,7 @@ finish-requires c =     let i = c.loop-slot.invariant in
 
 pub returns : goal.returns
 returns c =
-    let starts : ((c : tie.At-loop invariant-loop decreases-loop) (f : File) (next : ℕ) → let l = line_at c.args.line.now c.args.at next in length f.lines ≡ c.args.m → left_to_read f l c.first_slot-slot.result 3 c.args.at (line_in c.clear_operands.new.heads c.args.bodies.now c.args.m) (tokens_from true (c.args.at + 1) (drop (c.args.at + 1) c.args.line.now)) ≡ read_statement c.args.form f l) = λ c f next q. let e = c.clear_operands.ensures.1 in
+    let starts : ((f : File) (next : ℕ) → let l = line_at c.args.line.now c.args.at next in length f.lines ≡ c.args.m → left_to_read f l c.first_slot-slot.result 3 c.args.at (line_in c.clear_operands.new.heads c.args.bodies.now c.args.m) (tokens_from true (c.args.at + 1) (drop (c.args.at + 1) c.args.line.now)) ≡ read_statement c.args.form f l) = λ f next q. let e = c.clear_operands.ensures.1 in
     let room = c.if-m-ge-LINES.false in
     rw c.first_slot-slot.ensures (statement_starts c.args.form f c.args.line.now c.args.at next c.args.m 3 c.args.at _ q room (rw (e, line_cleared c.args.heads.now c.args.bodies.now c.args.m c.requires.3 room))) in
     let cleared-kept : (LinesKept c.args.heads.now c.args.bodies.now c.clear_operands.new.heads c.args.bodies.now c.args.m) = rw c.clear_operands.ensures.1 (kept_cleared c.args.heads.now c.args.bodies.now c.args.m) in
@@ -84,4 +84,4 @@ returns c =
     let a = i.in_line.least in
     let b = i.in_slots in
     let e : c.loop-slot.slot ≡ p.last + 1 = omega arith in
-    (λ f next v q. c.finish.ensures _ i.fits ∙ left_done f _ p.last p.operator _ _ c.loop-slot.slot (omega arith) e _ v ∙ i.left f next v ∙ starts c f next q, kept_on cleared-kept i.kept, fits_any _ _ _ _ c.finish.result c.if-m-ge-LINES.false i.fits, i.sized_heads, i.sized_bodies)
+    (λ f next v q. c.finish.ensures _ i.fits ∙ left_done f _ p.last p.operator _ _ c.loop-slot.slot (omega arith) e _ v ∙ i.left f next v ∙ starts f next q, kept_on cleared-kept i.kept, fits_any _ _ _ _ c.finish.result c.if-m-ge-LINES.false i.fits, i.sized_heads, i.sized_bodies)
