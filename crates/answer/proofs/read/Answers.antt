@@ -33,7 +33,7 @@ returns-then-values-n c =
     let counted : (length (let r = c.read in stored_file c.args.constraint.now (store_of r.new.1.0 r.new.1.1.0 r.new.1.1.1.0) c.in-Next.p).variables ≡ c.in-Next.p.variables) = variables_length c.args.constraint.now c.read.new.variables c.in-Next.p.variables in
     let row_read : (accepted (take c.in-Next.p.variables c.read_answer.new.row) ≡ read_answer (let r = c.read in stored_file c.args.constraint.now (store_of r.new.1.0 r.new.1.1.0 r.new.1.1.1.0) c.in-Next.p).variables c.args.answer.now) = rw c.in-Complete.is at c.read_answer.ensures.0 in
     let a = c.args in
-    ap (stored a.values-1.now) (reading_short a.constraint.now a.answer.now a.values-1.now (let r = c.read in stored_file c.args.constraint.now (store_of r.new.1.0 r.new.1.1.0 r.new.1.1.1.0) c.in-Next.p) file_read (take c.in-Next.p.variables c.read_answer.new.row) row_read c.in-Next.c.variables counted c.if-values-n.true)
+    ap (stored a.values-1.now) (reading_short a.constraint.now a.answer.now a.values-1.now (let r = c.read in stored_file c.args.constraint.now (store_of r.new.1.0 r.new.1.1.0 r.new.1.1.1.0) c.in-Next.p) file_read (take c.in-Next.p.variables c.read_answer.new.row) row_read c.in-Next.p.variables counted c.if-values-n.true)
 
 pub store_row-requires : goal.store_row-requires
 store_row-requires c =
@@ -58,6 +58,6 @@ returns-else-values-n c =
     let row_read : (accepted (take c.in-Next.p.variables c.read_answer.new.row) ≡ read_answer (let r = c.read in stored_file c.args.constraint.now (store_of r.new.1.0 r.new.1.1.0 r.new.1.1.1.0) c.in-Next.p).variables c.args.answer.now) = rw c.in-Complete.is at c.read_answer.ensures.0 in
     let a = c.args in
     let r = c.read_answer in
-    let n = c.in-Next.c.variables in
+    let n = c.in-Next.p.variables in
     row_stored a.values-1.now r.new.1.1.1.1.0 _ n (omega (arith, few, r.ensures.1)) c.store_row.ensures
     ∙ ap (stored a.values-1.now) (reading_row a.constraint.now a.answer.now a.values-1.now (let r = c.read in stored_file c.args.constraint.now (store_of r.new.1.0 r.new.1.1.0 r.new.1.1.1.0) c.in-Next.p) file_read (take c.in-Next.p.variables c.read_answer.new.row) row_read n counted c.if-values-n.false)

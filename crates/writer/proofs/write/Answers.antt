@@ -65,7 +65,7 @@ satisfies-requires c =
     store_of r.new.1.0 r.new.1.1.0 r.new.1.1.1.0) c.in-Next.p).variables (take (c.in-Next.p.variables) (c.args.values.now)) (length-take-le (c.in-Next.p.variables) (c.args.values.now) room ∙ sym counted) (sym unfit) in
     let t = c.read.ensures.1 in
     (in_tables.lines, t.heads-1, t.bodies-1, lines_fit (c.args.constraint.now) (let r = c.read in
-    store_of r.new.1.0 r.new.1.1.0 r.new.1.1.1.0) c.in-Next.c (take (c.in-Next.p.variables) (c.args.values.now)) file_read heads_fit fits)
+    store_of r.new.1.0 r.new.1.1.0 r.new.1.1.1.0) c.in-Next.p (take (c.in-Next.p.variables) (c.args.values.now)) file_read heads_fit fits)
 
 pub write_row-requires : goal.write_row-requires
 write_row-requires c =

@@ -23,31 +23,31 @@ returns-in-Faulty c =     (rw c.refusal.ensures (reading_faults Answer (read_ans
 
 pub slice_bounds-cut-end : goal.slice_bounds-cut-end
 slice_bounds-cut-end c =
-    let line : (Ended c.args.answer.now c.loop-i.i c.in-Ends.stop c.stop-1.given.0.1.0) = line_ends c.args.answer.now c.loop-i.i c.loop-i-test.true _ _ (sym c.in-Ends.is ∙ c.find_line.ensures) in
+    let line : (Ended c.args.answer.now c.loop-i.i c.in-Ends.stop c.in-Ends.next) = line_ends c.args.answer.now c.loop-i.i c.loop-i-test.true _ _ (sym c.in-Ends.is ∙ c.find_line.ensures) in
     let long : (length (take c.in-Ends.stop c.args.answer.now) ≡ c.in-Ends.stop) = length-take-le c.in-Ends.stop c.args.answer.now line.within in
     sym long
 
 pub read_any_line-requires : goal.read_any_line-requires
 read_any_line-requires c =
-    let line : (Ended c.args.answer.now c.loop-i.i c.in-Ends.stop c.stop-1.given.0.1.0) = line_ends c.args.answer.now c.loop-i.i c.loop-i-test.true _ _ (sym c.in-Ends.is ∙ c.find_line.ensures) in
+    let line : (Ended c.args.answer.now c.loop-i.i c.in-Ends.stop c.in-Ends.next) = line_ends c.args.answer.now c.loop-i.i c.loop-i-test.true _ _ (sym c.in-Ends.is ∙ c.find_line.ensures) in
     let long : (length (take c.in-Ends.stop c.args.answer.now) ≡ c.in-Ends.stop) = length-take-le c.in-Ends.stop c.args.answer.now line.within in
     (omega (arith, long, line.begun), c.requires.0, c.requires.1, c.loop-i.invariant.1, line.allowed)
 
 pub returns-in-Stop : goal.returns-in-Stop
 returns-in-Stop c =
-    let line : (Ended c.args.answer.now c.loop-i.i c.in-Ends.stop c.stop-1.given.0.1.0) = line_ends c.args.answer.now c.loop-i.i c.loop-i-test.true _ _ (sym c.in-Ends.is ∙ c.find_line.ensures) in
-    let next = c.stop-1.given.0.1.0 in
-    (reading_stops Answer (read_answer_line (variables_in c.args.file.now c.args.variables.now c.args.n)) (settings_of false (entries_in c.args.flags.now c.args.values.now c.args.n)) c.args.answer.now c.loop-i.invariant.0 c.loop-i-test.true c.in-Ends.stop next line c.in-Stop.c (rw c.in-Stop.is at (c.read_any_line.ensures.0 next)), c.read_any_line.ensures.1)
+    let line : (Ended c.args.answer.now c.loop-i.i c.in-Ends.stop c.in-Ends.next) = line_ends c.args.answer.now c.loop-i.i c.loop-i-test.true _ _ (sym c.in-Ends.is ∙ c.find_line.ensures) in
+    let next = c.in-Ends.next in
+    (reading_stops Answer (read_answer_line (variables_in c.args.file.now c.args.variables.now c.args.n)) (settings_of false (entries_in c.args.flags.now c.args.values.now c.args.n)) c.args.answer.now c.loop-i.invariant.0 c.loop-i-test.true c.in-Ends.stop next line c.in-Stop.r (rw c.in-Stop.is at (c.read_any_line.ensures.0 next)), c.read_any_line.ensures.1)
 
 pub loop-i-smaller : goal.loop-i-smaller
 loop-i-smaller c =
-    let line : (Ended c.args.answer.now c.loop-i.i c.in-Ends.stop c.stop-1.given.0.1.0) = line_ends c.args.answer.now c.loop-i.i c.loop-i-test.true _ _ (sym c.in-Ends.is ∙ c.find_line.ensures) in
+    let line : (Ended c.args.answer.now c.loop-i.i c.in-Ends.stop c.in-Ends.next) = line_ends c.args.answer.now c.loop-i.i c.loop-i-test.true _ _ (sym c.in-Ends.is ∙ c.find_line.ensures) in
     omega (arith, line.forward, line.inside)
 
 pub loop-i-preserved : goal.loop-i-preserved
 loop-i-preserved c =
-    let line : (Ended c.args.answer.now c.loop-i.i c.in-Ends.stop c.stop-1.given.0.1.0) = line_ends c.args.answer.now c.loop-i.i c.loop-i-test.true _ _ (sym c.in-Ends.is ∙ c.find_line.ensures) in
-    let next = c.stop-1.given.0.1.0 in
+    let line : (Ended c.args.answer.now c.loop-i.i c.in-Ends.stop c.in-Ends.next) = line_ends c.args.answer.now c.loop-i.i c.loop-i-test.true _ _ (sym c.in-Ends.is ∙ c.find_line.ensures) in
+    let next = c.in-Ends.next in
     (reading_goes Answer (read_answer_line (variables_in c.args.file.now c.args.variables.now c.args.n)) (settings_of false (entries_in c.args.flags.now c.args.values.now c.args.n)) c.args.answer.now c.loop-i.invariant.0 c.loop-i-test.true c.in-Ends.stop next line _ (rw c.in-Next.is at (c.read_any_line.ensures.0 next)), c.read_any_line.ensures.1)
 
 pub returns : goal.returns

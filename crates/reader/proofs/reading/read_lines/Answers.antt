@@ -25,7 +25,7 @@ returns-in-Faulty c =     let i = c.loop-i.invariant in
 
 pub read_any_line-added-requires : goal.read_any_line-added-requires
 read_any_line-added-requires c =
-    let line : (Ended c.args.file.now c.loop-i.i c.in-Ends.stop c.stop-1.given.0.1.0) = line_ends c.args.file.now c.loop-i.i c.loop-i-test.true _ _ (sym c.in-Ends.is ∙ c.find_line.ensures) in
+    let line : (Ended c.args.file.now c.loop-i.i c.in-Ends.stop c.in-Ends.next) = line_ends c.args.file.now c.loop-i.i c.loop-i-test.true _ _ (sym c.in-Ends.is ∙ c.find_line.ensures) in
     let i = c.loop-i.invariant in
     (line.begun, line.within, c.requires.0, i.2, i.1, i.3, line.allowed)
 
@@ -34,23 +34,23 @@ advance-requires c = c.read_any_line-added.ensures.3
 
 pub returns-in-Stop : goal.returns-in-Stop
 returns-in-Stop c =
-    let line : (Ended c.args.file.now c.loop-i.i c.in-Ends.stop c.stop-1.given.0.1.0) = line_ends c.args.file.now c.loop-i.i c.loop-i-test.true _ _ (sym c.in-Ends.is ∙ c.find_line.ensures) in
+    let line : (Ended c.args.file.now c.loop-i.i c.in-Ends.stop c.in-Ends.next) = line_ends c.args.file.now c.loop-i.i c.loop-i-test.true _ _ (sym c.in-Ends.is ∙ c.find_line.ensures) in
     let e = c.read_any_line-added.ensures in
-    let next = c.stop-1.given.0.1.0 in
+    let next = c.in-Ends.next in
     let step = sym c.advance.ensures ∙ c.in-Stop.is in
-    (reading_stops Constraint read_line empty_file c.args.file.now c.loop-i.invariant.0 c.loop-i-test.true c.in-Ends.stop next line c.in-Stop.c (rw step at (e.0 next)), e.1, tt, tt, tt)
+    (reading_stops Constraint read_line empty_file c.args.file.now c.loop-i.invariant.0 c.loop-i-test.true c.in-Ends.stop next line c.in-Stop.r (rw step at (e.0 next)), e.1, tt, tt, tt)
 
 pub loop-i-smaller : goal.loop-i-smaller
 loop-i-smaller c =
-    let line : (Ended c.args.file.now c.loop-i.i c.in-Ends.stop c.stop-1.given.0.1.0) = line_ends c.args.file.now c.loop-i.i c.loop-i-test.true _ _ (sym c.in-Ends.is ∙ c.find_line.ensures) in
+    let line : (Ended c.args.file.now c.loop-i.i c.in-Ends.stop c.in-Ends.next) = line_ends c.args.file.now c.loop-i.i c.loop-i-test.true _ _ (sym c.in-Ends.is ∙ c.find_line.ensures) in
     omega (arith, line.forward, line.inside)
 
 pub loop-i-preserved : goal.loop-i-preserved
 loop-i-preserved c =
-    let line : (Ended c.args.file.now c.loop-i.i c.in-Ends.stop c.stop-1.given.0.1.0) = line_ends c.args.file.now c.loop-i.i c.loop-i-test.true _ _ (sym c.in-Ends.is ∙ c.find_line.ensures) in
+    let line : (Ended c.args.file.now c.loop-i.i c.in-Ends.stop c.in-Ends.next) = line_ends c.args.file.now c.loop-i.i c.loop-i-test.true _ _ (sym c.in-Ends.is ∙ c.find_line.ensures) in
     let e = c.read_any_line-added.ensures in
     let i = c.loop-i.invariant in
-    let next = c.stop-1.given.0.1.0 in
+    let next = c.in-Ends.next in
     let step = sym c.advance.ensures ∙ c.in-Next.is in
     let goes = rw step at (e.0 next) in
     (reading_goes Constraint read_line empty_file c.args.file.now i.0 c.loop-i-test.true c.in-Ends.stop next line _ goes, e.1, rw step at (room_enough c.loop-i.p c.read_any_line-added.result i.2 e.3), rw step at e.2, rw step at (e.4 i.4))

@@ -98,7 +98,7 @@ returns-in-Bar c =
     let file_read : (accepted (stored_file (c.args.constraint.now) (let l = c.read.new.variables in store_of l.0 l.1.0 l.1.1.0) (c.in-Next.p)) ≡ read_file (c.args.constraint.now)) = rw c.in-Next.is at c.read.ensures.0 in
     let row_read : (accepted (take (c.in-Next.p).variables-1 c.read_answer.new.row) ≡ read_answer (stored_file (c.args.constraint.now) (let l = c.read.new.variables in store_of l.0 l.1.0 l.1.1.0) (c.in-Next.p)).variables-1 c.args.answer.now) = rw c.in-Complete.is at c.read_answer.ensures.0 in
     let tested : (gate_result c.tables_room.result ≡ tables_room (stored_file (c.args.constraint.now) (let l = c.read.new.variables in store_of l.0 l.1.0 l.1.1.0) (c.in-Next.p)) (room_of (let a = c.args in tables_of a.values-1.now a.verdicts-1.now a.results-1.now))) = c.tables_room.ensures (stored_file (c.args.constraint.now) (let l = c.read.new.variables in store_of l.0 l.1.0 l.1.1.0) (c.in-Next.p)) (variables_held (c.args.constraint.now) (let l = c.read.new.variables in store_of l.0 l.1.0 l.1.1.0) (c.in-Next.p)) (lines_held (c.args.constraint.now) (let l = c.read.new.variables in store_of l.0 l.1.0 l.1.1.0) (c.in-Next.p)) in
-    (ap (checked (let a = c.args in tables_of a.values-1.now a.verdicts-1.now a.results-1.now)) (refused_room (c.args.constraint.now) c.args.answer.now _ (stored_file (c.args.constraint.now) (let l = c.read.new.variables in store_of l.0 l.1.0 l.1.1.0) (c.in-Next.p)) file_read (take (c.in-Next.p).variables-1 c.read_answer.new.row) row_read c.in-Bar.c (rw c.in-Bar.is at tested)), tt)
+    (ap (checked (let a = c.args in tables_of a.values-1.now a.verdicts-1.now a.results-1.now)) (refused_room (c.args.constraint.now) c.args.answer.now _ (stored_file (c.args.constraint.now) (let l = c.read.new.variables in store_of l.0 l.1.0 l.1.1.0) (c.in-Next.p)) file_read (take (c.in-Next.p).variables-1 c.read_answer.new.row) row_read c.in-Bar.r (rw c.in-Bar.is at tested)), tt)
 
 pub returns-in-Pass : goal.returns-in-Pass
 returns-in-Pass c =
