@@ -29,11 +29,11 @@ read_answer-requires c =
 
 pub returns-then-values-n : goal.returns-then-values-n
 returns-then-values-n c =
-    let file_read : (accepted (let r = c.read in stored_file c.args.constraint.now (store_of r.new.1.0 r.new.1.1.0 r.new.1.1.1.0) c.in-Next.p) ≡ read_file c.args.constraint.now) = rw c.in-Next.is at c.read.ensures.0 in
-    let counted : (length (let r = c.read in stored_file c.args.constraint.now (store_of r.new.1.0 r.new.1.1.0 r.new.1.1.1.0) c.in-Next.p).variables ≡ c.in-Next.p.variables) = variables_length c.args.constraint.now c.read.new.variables c.in-Next.p.variables in
-    let row_read : (accepted (take c.in-Next.p.variables c.read_answer.new.row) ≡ read_answer (let r = c.read in stored_file c.args.constraint.now (store_of r.new.1.0 r.new.1.1.0 r.new.1.1.1.0) c.in-Next.p).variables c.args.answer.now) = rw c.in-Complete.is at c.read_answer.ensures.0 in
+    let file_read : (accepted (stored_file c.args.constraint.now (store_of c.read.new.variables c.read.new.heads c.read.new.bodies) c.in-Next.p) ≡ read_file c.args.constraint.now) = rw c.in-Next.is at c.read.ensures.0 in
+    let counted : (length (stored_file c.args.constraint.now (store_of c.read.new.variables c.read.new.heads c.read.new.bodies) c.in-Next.p).variables ≡ c.in-Next.p.variables) = variables_length c.args.constraint.now c.read.new.variables c.in-Next.p.variables in
+    let row_read : (accepted (take c.in-Next.p.variables c.read_answer.new.row) ≡ read_answer (stored_file c.args.constraint.now (store_of c.read.new.variables c.read.new.heads c.read.new.bodies) c.in-Next.p).variables c.args.answer.now) = rw c.in-Complete.is at c.read_answer.ensures.0 in
     let a = c.args in
-    ap (stored a.values-1.now) (reading_short a.constraint.now a.answer.now a.values-1.now (let r = c.read in stored_file c.args.constraint.now (store_of r.new.1.0 r.new.1.1.0 r.new.1.1.1.0) c.in-Next.p) file_read (take c.in-Next.p.variables c.read_answer.new.row) row_read c.in-Next.p.variables counted c.if-values-n.true)
+    ap (stored a.values.now) (reading_short a.constraint.now a.answer.now a.values.now (stored_file c.args.constraint.now (store_of c.read.new.variables c.read.new.heads c.read.new.bodies) c.in-Next.p) file_read (take c.in-Next.p.variables c.read_answer.new.row) row_read c.in-Next.p.variables counted c.if-values-n.true)
 
 pub store_row-requires : goal.store_row-requires
 store_row-requires c =
@@ -42,22 +42,21 @@ store_row-requires c =
 
 pub returns-in-Stop : goal.returns-in-Stop
 returns-in-Stop c =     let a = c.args in
-    ap (stored a.values-1.now) (reading_constraint a.constraint.now a.answer.now a.values-1.now c.in-Stop.r (rw c.in-Stop.is at c.read.ensures.0))
+    ap (stored a.values.now) (reading_constraint a.constraint.now a.answer.now a.values.now c.in-Stop.r (rw c.in-Stop.is at c.read.ensures.0))
 
 pub returns-in-Fault : goal.returns-in-Fault
 returns-in-Fault c =
-    let file_read : (accepted (let r = c.read in stored_file c.args.constraint.now (store_of r.new.1.0 r.new.1.1.0 r.new.1.1.1.0) c.in-Next.p) ≡ read_file c.args.constraint.now) = rw c.in-Next.is at c.read.ensures.0 in
+    let file_read : (accepted (stored_file c.args.constraint.now (store_of c.read.new.variables c.read.new.heads c.read.new.bodies) c.in-Next.p) ≡ read_file c.args.constraint.now) = rw c.in-Next.is at c.read.ensures.0 in
     let a = c.args in
-    ap (stored a.values-1.now) (reading_answer a.constraint.now a.answer.now a.values-1.now (let r = c.read in stored_file c.args.constraint.now (store_of r.new.1.0 r.new.1.1.0 r.new.1.1.1.0) c.in-Next.p) file_read c.in-Fault.r (rw c.in-Fault.is at c.read_answer.ensures.0))
+    ap (stored a.values.now) (reading_answer a.constraint.now a.answer.now a.values.now (stored_file c.args.constraint.now (store_of c.read.new.variables c.read.new.heads c.read.new.bodies) c.in-Next.p) file_read c.in-Fault.r (rw c.in-Fault.is at c.read_answer.ensures.0))
 
 pub returns-else-values-n : goal.returns-else-values-n
 returns-else-values-n c =
-    let file_read : (accepted (let r = c.read in stored_file c.args.constraint.now (store_of r.new.1.0 r.new.1.1.0 r.new.1.1.1.0) c.in-Next.p) ≡ read_file c.args.constraint.now) = rw c.in-Next.is at c.read.ensures.0 in
+    let file_read : (accepted (stored_file c.args.constraint.now (store_of c.read.new.variables c.read.new.heads c.read.new.bodies) c.in-Next.p) ≡ read_file c.args.constraint.now) = rw c.in-Next.is at c.read.ensures.0 in
     let few : (c.in-Next.p.variables ≤ max_variables) = (rw c.in-Next.is at c.read.ensures.2).variables in
-    let counted : (length (let r = c.read in stored_file c.args.constraint.now (store_of r.new.1.0 r.new.1.1.0 r.new.1.1.1.0) c.in-Next.p).variables ≡ c.in-Next.p.variables) = variables_length c.args.constraint.now c.read.new.variables c.in-Next.p.variables in
-    let row_read : (accepted (take c.in-Next.p.variables c.read_answer.new.row) ≡ read_answer (let r = c.read in stored_file c.args.constraint.now (store_of r.new.1.0 r.new.1.1.0 r.new.1.1.1.0) c.in-Next.p).variables c.args.answer.now) = rw c.in-Complete.is at c.read_answer.ensures.0 in
+    let counted : (length (stored_file c.args.constraint.now (store_of c.read.new.variables c.read.new.heads c.read.new.bodies) c.in-Next.p).variables ≡ c.in-Next.p.variables) = variables_length c.args.constraint.now c.read.new.variables c.in-Next.p.variables in
+    let row_read : (accepted (take c.in-Next.p.variables c.read_answer.new.row) ≡ read_answer (stored_file c.args.constraint.now (store_of c.read.new.variables c.read.new.heads c.read.new.bodies) c.in-Next.p).variables c.args.answer.now) = rw c.in-Complete.is at c.read_answer.ensures.0 in
     let a = c.args in
-    let r = c.read_answer in
     let n = c.in-Next.p.variables in
-    row_stored a.values-1.now r.new.1.1.1.1.0 _ n (omega (arith, few, r.ensures.1)) c.store_row.ensures
-    ∙ ap (stored a.values-1.now) (reading_row a.constraint.now a.answer.now a.values-1.now (let r = c.read in stored_file c.args.constraint.now (store_of r.new.1.0 r.new.1.1.0 r.new.1.1.1.0) c.in-Next.p) file_read (take c.in-Next.p.variables c.read_answer.new.row) row_read n counted c.if-values-n.false)
+    row_stored a.values.now c.read_answer.new.row _ n (omega (arith, few, c.read_answer.ensures.1)) c.store_row.ensures
+    ∙ ap (stored a.values.now) (reading_row a.constraint.now a.answer.now a.values.now (stored_file c.args.constraint.now (store_of c.read.new.variables c.read.new.heads c.read.new.bodies) c.in-Next.p) file_read (take c.in-Next.p.variables c.read_answer.new.row) row_read n counted c.if-values-n.false)

@@ -19,7 +19,7 @@ pub index_held-requires : goal.index_held-requires
 index_held-requires c =
     let in_tables : (InTables (c.in-Next.p)) = rw c.in-Next.is at c.read.ensures.2 in
     let sized = c.read.ensures.1 in
-    (sized.heads-1, sized.bodies-1, in_tables.variables, in_tables.lines)
+    (sized.heads, sized.bodies, in_tables.variables, in_tables.lines)
 
 pub returns-in-Stop : goal.returns-in-Stop
 unfolding indexing

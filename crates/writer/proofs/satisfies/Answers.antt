@@ -29,6 +29,5 @@ returns-else-judged-eq-HOLDS c xs f =
     one_fails xs _ _ _ _ _ c.loop-k-test.true (λ e. c.if-judged-eq-HOLDS.false (sym (verdict-of xs f) ∙ e))
 
 pub returns : goal.returns
-returns c xs f =     let l = c.loop-k in
-    let e : l.k ≡ c.args.m = omega arith in
-    all_hold xs _ _ _ _ (rw e at (l.invariant.1 xs f))
+returns c xs f =     let e : c.loop-k.k ≡ c.args.m = omega arith in
+    all_hold xs _ _ _ _ (rw e at (c.loop-k.invariant.1 xs f))

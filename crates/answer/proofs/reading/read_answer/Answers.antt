@@ -22,15 +22,13 @@ returns-then-answer-gt-FILE_BYTES c = (rw c.refusal.ensures (answer_long (variab
 pub returns-then-not-solved : goal.returns-then-not-solved
 returns-then-not-solved c =
     let lines-read : (answer_step (entries_in c.read_lines.new.flags c.read_lines.new.values c.args.n) c.read_lines.result ≡ read_lines Answer (read_answer_line (variables_in c.args.file.now c.args.variables.now c.args.n)) (no_settings (variables_in c.args.file.now c.args.variables.now c.args.n)) (text_lines c.args.answer.now)) = c.read_lines.ensures.0 ∙ ap (λ t. read_lines Answer (read_answer_line (variables_in c.args.file.now c.args.variables.now c.args.n)) t (text_lines c.args.answer.now)) (nothing_set c.args.file.now c.args.variables.now c.args.row.now 256 c.args.n c.requires.0) in
-    let t = c.solved-1.given in
-    (rw c.refusal-then-not-solved.ensures (answer_unsolved (variables_in c.args.file.now c.args.variables.now c.args.n) c.args.answer.now c.if-answer-gt-FILE_BYTES.false _ (rw t.1 at lines-read) (not-true t.0.0 c.if-not-solved.true-raw)), c.read_lines.ensures.1.values_whole)
+    (rw c.refusal-then-not-solved.ensures (answer_unsolved (variables_in c.args.file.now c.args.variables.now c.args.n) c.args.answer.now c.if-answer-gt-FILE_BYTES.false _ (rw c.in-Next.is at lines-read) (not-true c.in-Next.solved c.if-not-solved.true-raw)), c.read_lines.ensures.1.values_whole)
 
 pub returns-then-not-all_set : goal.returns-then-not-all_set
 returns-then-not-all_set c =
     let lines-read : (answer_step (entries_in c.read_lines.new.flags c.read_lines.new.values c.args.n) c.read_lines.result ≡ read_lines Answer (read_answer_line (variables_in c.args.file.now c.args.variables.now c.args.n)) (no_settings (variables_in c.args.file.now c.args.variables.now c.args.n)) (text_lines c.args.answer.now)) = c.read_lines.ensures.0 ∙ ap (λ t. read_lines Answer (read_answer_line (variables_in c.args.file.now c.args.variables.now c.args.n)) t (text_lines c.args.answer.now)) (nothing_set c.args.file.now c.args.variables.now c.args.row.now 256 c.args.n c.requires.0) in
-    let t = c.solved-1.given in
     let vs = entries_in c.read_lines.new.flags c.read_lines.new.values c.args.n in
-    (rw c.refusal-then-not-all_set.ensures (answer_unset (variables_in c.args.file.now c.args.variables.now c.args.n) c.args.answer.now c.if-answer-gt-FILE_BYTES.false (settings_of t.0.0 vs) (rw t.1 at lines-read) (not-false t.0.0 c.if-not-solved.false-raw) (not_there (all_set vs) (rw (c.All-set.ensures c.read_lines.new.values) at c.if-not-all_set.true-raw))), c.read_lines.ensures.1.values_whole)
+    (rw c.refusal-then-not-all_set.ensures (answer_unset (variables_in c.args.file.now c.args.variables.now c.args.n) c.args.answer.now c.if-answer-gt-FILE_BYTES.false (settings_of c.in-Next.solved vs) (rw c.in-Next.is at lines-read) (not-false c.in-Next.solved c.if-not-solved.false-raw) (not_there (all_set vs) (rw (c.all_set.ensures c.read_lines.new.values) at c.if-not-all_set.true-raw))), c.read_lines.ensures.1.values_whole)
 
 pub returns-in-Stop : goal.returns-in-Stop
 returns-in-Stop c =
@@ -40,7 +38,6 @@ returns-in-Stop c =
 pub returns-else-not-all_set : goal.returns-else-not-all_set
 returns-else-not-all_set c =
     let lines-read : (answer_step (entries_in c.read_lines.new.flags c.read_lines.new.values c.args.n) c.read_lines.result ≡ read_lines Answer (read_answer_line (variables_in c.args.file.now c.args.variables.now c.args.n)) (no_settings (variables_in c.args.file.now c.args.variables.now c.args.n)) (text_lines c.args.answer.now)) = c.read_lines.ensures.0 ∙ ap (λ t. read_lines Answer (read_answer_line (variables_in c.args.file.now c.args.variables.now c.args.n)) t (text_lines c.args.answer.now)) (nothing_set c.args.file.now c.args.variables.now c.args.row.now 256 c.args.n c.requires.0) in
-    let t = c.solved-1.given in
     let flags = c.read_lines.new.flags in
     let row = c.read_lines.new.values in
-    (answer_read (variables_in c.args.file.now c.args.variables.now c.args.n) c.args.answer.now c.if-answer-gt-FILE_BYTES.false (settings_of t.0.0 (entries_in flags row c.args.n)) (rw t.1 at lines-read) (not-false t.0.0 c.if-not-solved.false-raw) (take c.args.n row) (all_row flags row c.args.n (omega (arith, c.read_lines.ensures.1.values_whole)) (sym (c.All-set.ensures row) ∙ not-false c.All-set.result c.if-not-all_set.false-raw)), c.read_lines.ensures.1.values_whole)
+    (answer_read (variables_in c.args.file.now c.args.variables.now c.args.n) c.args.answer.now c.if-answer-gt-FILE_BYTES.false (settings_of c.in-Next.solved (entries_in flags row c.args.n)) (rw c.in-Next.is at lines-read) (not-false c.in-Next.solved c.if-not-solved.false-raw) (take c.args.n row) (all_row flags row c.args.n (omega (arith, c.read_lines.ensures.1.values_whole)) (sym (c.all_set.ensures row) ∙ not-false c.all_set.result c.if-not-all_set.false-raw)), c.read_lines.ensures.1.values_whole)

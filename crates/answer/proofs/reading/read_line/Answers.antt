@@ -20,7 +20,7 @@ returns-in-OfSolution c = (λ next. c.solution_line.ensures (settings_of c.args.
 
 pub returns-in-OfValues : goal.returns-in-OfValues
 unfolding read_answer_as
-returns-in-OfValues c = (λ next. c.Value-line.ensures.0 next ∙ of_kind OfValues (variables_in c.args.file.now c.args.variables.now c.args.n) (settings_of c.args.solved (entries_in c.args.flags.now c.args.values.now c.args.n)) (line_at c.args.line.now c.args.at next) c.kind_of.ensures c.in-OfValues.is, c.Value-line.ensures.1)
+returns-in-OfValues c = (λ next. c.value_line.ensures.0 next ∙ of_kind OfValues (variables_in c.args.file.now c.args.variables.now c.args.n) (settings_of c.args.solved (entries_in c.args.flags.now c.args.values.now c.args.n)) (line_at c.args.line.now c.args.at next) c.kind_of.ensures c.in-OfValues.is, c.value_line.ensures.1)
 
 pub returns-in-OfNoKind : goal.returns-in-OfNoKind
 unfolding read_answer_as

@@ -36,8 +36,7 @@ read_any_line-requires c =
 pub returns-in-Stop : goal.returns-in-Stop
 returns-in-Stop c =
     let line : (Ended c.args.answer.now c.loop-i.i c.in-Ends.stop c.in-Ends.next) = line_ends c.args.answer.now c.loop-i.i c.loop-i-test.true _ _ (sym c.in-Ends.is ∙ c.find_line.ensures) in
-    let next = c.in-Ends.next in
-    (reading_stops Answer (read_answer_line (variables_in c.args.file.now c.args.variables.now c.args.n)) (settings_of false (entries_in c.args.flags.now c.args.values.now c.args.n)) c.args.answer.now c.loop-i.invariant.0 c.loop-i-test.true c.in-Ends.stop next line c.in-Stop.r (rw c.in-Stop.is at (c.read_any_line.ensures.0 next)), c.read_any_line.ensures.1)
+    (reading_stops Answer (read_answer_line (variables_in c.args.file.now c.args.variables.now c.args.n)) (settings_of false (entries_in c.args.flags.now c.args.values.now c.args.n)) c.args.answer.now c.loop-i.invariant.0 c.loop-i-test.true c.in-Ends.stop c.in-Ends.next line c.in-Stop.r (rw c.in-Stop.is at (c.read_any_line.ensures.0 c.in-Ends.next)), c.read_any_line.ensures.1)
 
 pub loop-i-smaller : goal.loop-i-smaller
 loop-i-smaller c =
@@ -47,8 +46,7 @@ loop-i-smaller c =
 pub loop-i-preserved : goal.loop-i-preserved
 loop-i-preserved c =
     let line : (Ended c.args.answer.now c.loop-i.i c.in-Ends.stop c.in-Ends.next) = line_ends c.args.answer.now c.loop-i.i c.loop-i-test.true _ _ (sym c.in-Ends.is ∙ c.find_line.ensures) in
-    let next = c.in-Ends.next in
-    (reading_goes Answer (read_answer_line (variables_in c.args.file.now c.args.variables.now c.args.n)) (settings_of false (entries_in c.args.flags.now c.args.values.now c.args.n)) c.args.answer.now c.loop-i.invariant.0 c.loop-i-test.true c.in-Ends.stop next line _ (rw c.in-Next.is at (c.read_any_line.ensures.0 next)), c.read_any_line.ensures.1)
+    (reading_goes Answer (read_answer_line (variables_in c.args.file.now c.args.variables.now c.args.n)) (settings_of false (entries_in c.args.flags.now c.args.values.now c.args.n)) c.args.answer.now c.loop-i.invariant.0 c.loop-i-test.true c.in-Ends.stop c.in-Ends.next line _ (rw c.in-Next.is at (c.read_any_line.ensures.0 c.in-Ends.next)), c.read_any_line.ensures.1)
 
 pub returns : goal.returns
 returns c = (reading_ends Answer (read_answer_line (variables_in c.args.file.now c.args.variables.now c.args.n)) (settings_of false (entries_in c.args.flags.now c.args.values.now c.args.n)) c.args.answer.now c.loop-i.invariant.0 c.loop-i-test.false, c.loop-i.invariant.1)

@@ -13,7 +13,7 @@ loop-i-init c = (omega arith, refl, refl)
 pub loop-i-preserved : goal.loop-i-preserved
 loop-i-preserved c =     let a = c.args in
     let v = get_or a.row.now c.loop-i.i 0 in
-    (omega arith, length-set c.loop-i.values c.loop-i.i v ∙ c.loop-i.invariant.1, ap (λ s. set s c.loop-i.i v) c.loop-i.invariant.2 ∙ row_more a.row.now a.values-1.now c.loop-i.i (omega arith) (omega arith))
+    (omega arith, length-set c.loop-i.values c.loop-i.i v ∙ c.loop-i.invariant.1, ap (λ s. set s c.loop-i.i v) c.loop-i.invariant.2 ∙ row_more a.row.now a.values.now c.loop-i.i (omega arith) (omega arith))
 
 pub shape_of-values : goal.shape_of-values
 shape_of-values c = c.loop-i.invariant.1

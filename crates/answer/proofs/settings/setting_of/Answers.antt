@@ -18,17 +18,15 @@ returns-in-Nowhere c = let a = c.args in (named_unknown (variables_in c.args.fil
 
 pub returns-then-fits : goal.returns-then-fits
 returns-then-fits c =
-    let fit : (c.fits2.result ≡ ltb c.args.v (2 ^ width_at (variables_in c.args.file.now c.args.variables.now c.args.n) c.in-At.i)) = let a = c.args in
-    c.fits2.ensures ∙ fits_test _ _ ∙ rw (c.width_of.ensures a.file.now) in
+    let fit : (c.fits.result ≡ ltb c.args.v (2 ^ width_at (variables_in c.args.file.now c.args.variables.now c.args.n) c.in-At.i)) = let a = c.args in
+    c.fits.ensures ∙ fits_test _ _ ∙ rw (c.width_of.ensures a.file.now) in
     let a = c.args in
-    let i = c.i-1.given in
-    let e = sym (ap place i.1) ∙ c.find.ensures in
-    (named_set (variables_in c.args.file.now c.args.variables.now c.args.n) a.text.now a.at a.stop a.v c.if-text-at-gt-NAME_BYTES.false i.0.0 e (sym fit ∙ c.if-fits.true), (found_below _ (variables_in c.args.file.now c.args.variables.now c.args.n) i.0.0 a.n (variables_length a.file.now a.variables.now a.n) e, refl))
+    let e = sym (ap place c.in-At.is) ∙ c.find.ensures in
+    (named_set (variables_in c.args.file.now c.args.variables.now c.args.n) a.text.now a.at a.stop a.v c.if-text-at-gt-NAME_BYTES.false c.in-At.i e (sym fit ∙ c.if-fits.true), (found_below _ (variables_in c.args.file.now c.args.variables.now c.args.n) c.in-At.i a.n (variables_length a.file.now a.variables.now a.n) e, refl))
 
 pub returns-else-fits : goal.returns-else-fits
 returns-else-fits c =
-    let fit : (c.fits2.result ≡ ltb c.args.v (2 ^ width_at (variables_in c.args.file.now c.args.variables.now c.args.n) c.in-At.i)) = let a = c.args in
-    c.fits2.ensures ∙ fits_test _ _ ∙ rw (c.width_of.ensures a.file.now) in
+    let fit : (c.fits.result ≡ ltb c.args.v (2 ^ width_at (variables_in c.args.file.now c.args.variables.now c.args.n) c.in-At.i)) = let a = c.args in
+    c.fits.ensures ∙ fits_test _ _ ∙ rw (c.width_of.ensures a.file.now) in
     let a = c.args in
-    let i = c.i-1.given in
-    (named_unfit (variables_in c.args.file.now c.args.variables.now c.args.n) a.text.now a.at a.stop a.v c.if-text-at-gt-NAME_BYTES.false i.0.0 (sym (ap place i.1) ∙ c.find.ensures) (sym fit ∙ c.if-fits.false), tt)
+    (named_unfit (variables_in c.args.file.now c.args.variables.now c.args.n) a.text.now a.at a.stop a.v c.if-text-at-gt-NAME_BYTES.false c.in-At.i (sym (ap place c.in-At.is) ∙ c.find.ensures) (sym fit ∙ c.if-fits.false), tt)

@@ -17,19 +17,19 @@ returns-then-solved c = λ vs next. let a = c.args in rw c.refusal.ensures (solu
 
 pub slice_bounds-solution_at-end : goal.slice_bounds-solution_at-end
 slice_bounds-solution_at-end c =
-    let bounds : (let t = c.in-OneMore.t in (t.start < t.stop) × (t.stop ≤ length c.args.line.now)) = let w = rw c.in-OneMore.is at c.next_token.ensures.1 in (w.1, w.2) in
-    let long : (let t = c.in-OneMore.t in length (take t.stop c.args.line.now) ≡ t.stop) = length-take-le c.in-OneMore.t.stop c.args.line.now bounds.1 in
+    let bounds : ((c.in-OneMore.t.start < c.in-OneMore.t.stop) × (c.in-OneMore.t.stop ≤ length c.args.line.now)) = let w = rw c.in-OneMore.is at c.next_token.ensures.1 in (w.1, w.2) in
+    let long : (length (take c.in-OneMore.t.stop c.args.line.now) ≡ c.in-OneMore.t.stop) = length-take-le c.in-OneMore.t.stop c.args.line.now bounds.1 in
     sym long
 
 pub solution_at-requires : goal.solution_at-requires
 solution_at-requires c =
-    let bounds : (let t = c.in-OneMore.t in (t.start < t.stop) × (t.stop ≤ length c.args.line.now)) = let w = rw c.in-OneMore.is at c.next_token.ensures.1 in (w.1, w.2) in
-    let long : (let t = c.in-OneMore.t in length (take t.stop c.args.line.now) ≡ t.stop) = length-take-le c.in-OneMore.t.stop c.args.line.now bounds.1 in
+    let bounds : ((c.in-OneMore.t.start < c.in-OneMore.t.stop) × (c.in-OneMore.t.stop ≤ length c.args.line.now)) = let w = rw c.in-OneMore.is at c.next_token.ensures.1 in (w.1, w.2) in
+    let long : (length (take c.in-OneMore.t.stop c.args.line.now) ≡ c.in-OneMore.t.stop) = length-take-le c.in-OneMore.t.stop c.args.line.now bounds.1 in
     omega (arith, long, bounds)
 
 pub unless_more-requires : goal.unless_more-requires
 unless_more-requires c =
-    let bounds : (let t = c.in-OneMore.t in (t.start < t.stop) × (t.stop ≤ length c.args.line.now)) = let w = rw c.in-OneMore.is at c.next_token.ensures.1 in (w.1, w.2) in
+    let bounds : ((c.in-OneMore.t.start < c.in-OneMore.t.stop) × (c.in-OneMore.t.stop ≤ length c.args.line.now)) = let w = rw c.in-OneMore.is at c.next_token.ensures.1 in (w.1, w.2) in
     bounds.1
 
 pub returns-in-NoMore : goal.returns-in-NoMore
@@ -37,15 +37,15 @@ returns-in-NoMore c = λ vs next. let a = c.args in rw c.refusal-in-NoMore.ensur
 
 pub returns-in-Satisfiable : goal.returns-in-Satisfiable
 returns-in-Satisfiable c =
-    let tokens : (let a = c.args in let t = c.in-OneMore.t in tokens_from true (a.at + 1) (drop (a.at + 1) a.line.now) ≡ token_at (take t.stop a.line.now) t.start ∷ tokens_from true t.stop (drop t.stop a.line.now)) = rw c.in-OneMore.is at c.next_token.ensures.0 in
+    let tokens : (let a = c.args in tokens_from true (a.at + 1) (drop (a.at + 1) a.line.now) ≡ token_at (take c.in-OneMore.t.stop a.line.now) c.in-OneMore.t.start ∷ tokens_from true c.in-OneMore.t.stop (drop c.in-OneMore.t.stop a.line.now)) = rw c.in-OneMore.is at c.next_token.ensures.0 in
     λ vs next. let a = c.args in c.unless_more.ensures vs ∙ solution_satisfiable a.solved vs a.line.now a.at next c.if-solved.false tokens (sym c.in-Satisfiable.is ∙ c.solution_at.ensures)
 
 pub returns-in-Otherwise : goal.returns-in-Otherwise
 returns-in-Otherwise c =
-    let tokens : (let a = c.args in let t = c.in-OneMore.t in tokens_from true (a.at + 1) (drop (a.at + 1) a.line.now) ≡ token_at (take t.stop a.line.now) t.start ∷ tokens_from true t.stop (drop t.stop a.line.now)) = rw c.in-OneMore.is at c.next_token.ensures.0 in
+    let tokens : (let a = c.args in tokens_from true (a.at + 1) (drop (a.at + 1) a.line.now) ≡ token_at (take c.in-OneMore.t.stop a.line.now) c.in-OneMore.t.start ∷ tokens_from true c.in-OneMore.t.stop (drop c.in-OneMore.t.stop a.line.now)) = rw c.in-OneMore.is at c.next_token.ensures.0 in
     λ vs next. let a = c.args in rw c.refusal-in-Otherwise.ensures (solution_otherwise a.solved vs a.line.now a.at next c.if-solved.false tokens (sym c.in-Otherwise.is ∙ c.solution_at.ensures))
 
 pub returns-in-NoWord : goal.returns-in-NoWord
 returns-in-NoWord c =
-    let tokens : (let a = c.args in let t = c.in-OneMore.t in tokens_from true (a.at + 1) (drop (a.at + 1) a.line.now) ≡ token_at (take t.stop a.line.now) t.start ∷ tokens_from true t.stop (drop t.stop a.line.now)) = rw c.in-OneMore.is at c.next_token.ensures.0 in
+    let tokens : (let a = c.args in tokens_from true (a.at + 1) (drop (a.at + 1) a.line.now) ≡ token_at (take c.in-OneMore.t.stop a.line.now) c.in-OneMore.t.start ∷ tokens_from true c.in-OneMore.t.stop (drop c.in-OneMore.t.stop a.line.now)) = rw c.in-OneMore.is at c.next_token.ensures.0 in
     λ vs next. let a = c.args in rw c.refusal-in-NoWord.ensures (solution_none a.solved vs a.line.now a.at next c.if-solved.false tokens (sym c.in-NoWord.is ∙ c.solution_at.ensures))

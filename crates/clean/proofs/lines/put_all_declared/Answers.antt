@@ -12,8 +12,7 @@ put_declaration-end-requires c =     let h = c.loop-i-test.true in
     (c.requires.1 c.loop-i.i h, putting_room c.loop-i.invariant (rw (declarations_are c.args.file.now c.args.variables.now c.args.n) at c.requires.2) h)
 
 pub loop-i-preserved : goal.loop-i-preserved
-loop-i-preserved c =     let p = c.put_declaration-end in
-    putting_more c.loop-i.invariant (rw (declarations_are c.args.file.now c.args.variables.now c.args.n) at c.requires.2) c.loop-i-test.true p.auto.1.1.0 p.ensures
+loop-i-preserved c =     putting_more c.loop-i.invariant (rw (declarations_are c.args.file.now c.args.variables.now c.args.n) at c.requires.2) c.loop-i-test.true c.put_declaration-end.auto.room c.put_declaration-end.ensures
 
 pub shape_of-room : goal.shape_of-room
 shape_of-room c = c.loop-i.invariant.whole

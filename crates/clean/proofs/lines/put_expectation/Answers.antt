@@ -13,8 +13,7 @@ pub returns-in-NoExpectation : goal.returns-in-NoExpectation
 returns-in-NoExpectation c = rw c.in-NoExpectation.is (put_no_expectation _ _)
 
 pub returns-in-HasExpectation : goal.returns-in-HasExpectation
-returns-in-HasExpectation c =     let n = c.expectation-1.given in
-    rw n.1 (put_expectation n.0.0 (rw n.1 at c.requires) c.put_bytes-number.ensures c.put_digits.ensures)
+returns-in-HasExpectation c =     rw c.in-HasExpectation.is (put_expectation c.in-HasExpectation.n (rw c.in-HasExpectation.is at c.requires) c.put_bytes-number.ensures c.put_digits.ensures)
 
 -- TODO old:
 -- slice-aggregate-put-bytes : tie.Need-slice-aggregate-put-bytes

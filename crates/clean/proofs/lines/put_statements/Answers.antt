@@ -15,8 +15,7 @@ put_statement-end-requires c =     let h = c.loop-k-test.true in
     (c.requires.0, c.requires.1, c.requires.2, omega (arith, c.requires.3), c.requires.4 c.loop-k.k h, putting_room c.loop-k.invariant (rw (statements_are edition10 (variables_in c.args.file.now c.args.variables.now c.args.n) c.args.heads.now c.args.bodies.now c.args.m) at c.requires.5) h)
 
 pub loop-k-preserved : goal.loop-k-preserved
-loop-k-preserved c =     let p = c.put_statement-end in
-    putting_more c.loop-k.invariant (rw (statements_are edition10 (variables_in c.args.file.now c.args.variables.now c.args.n) c.args.heads.now c.args.bodies.now c.args.m) at c.requires.5) c.loop-k-test.true p.auto.1.1.1.1.1.1.0 p.ensures
+loop-k-preserved c =     putting_more c.loop-k.invariant (rw (statements_are edition10 (variables_in c.args.file.now c.args.variables.now c.args.n) c.args.heads.now c.args.bodies.now c.args.m) at c.requires.5) c.loop-k-test.true c.put_statement-end.auto.room c.put_statement-end.ensures
 
 pub shape_of-room : goal.shape_of-room
 shape_of-room c = c.loop-k.invariant.whole

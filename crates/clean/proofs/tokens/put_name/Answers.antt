@@ -13,4 +13,4 @@ returns-then-k-n c =     let a = c.args in
 
 pub returns-else-k-n : goal.returns-else-k-n
 returns-else-k-n c =     let a = c.args in
-    rw (name_none a.file.now a.variables.now a.n a.i c.if-k-n.false) (put_none a.room-1.now a.at)
+    rw (name_none a.file.now a.variables.now a.n a.i c.if-k-n.false) (put_none a.room.now a.at)

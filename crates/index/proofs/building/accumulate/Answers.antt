@@ -17,7 +17,6 @@ pub loop-i-preserved : goal.loop-i-preserved
 loop-i-preserved c = (search rules, summed_next _ _ _ _ c.loop-i.invariant.1 (omega (arith, c.requires.0)))
 
 pub returns : goal.returns
-returns c =     let l = c.loop-i in
-    let e : l.i ≡ c.args.n = omega arith in
-    let s = rw e at l.invariant.1 in
+returns c =     let e : c.loop-i.i ≡ c.args.n = omega arith in
+    let s = rw e at c.loop-i.invariant.1 in
     (s.long ∙ c.requires.0, s.sum, s.done)

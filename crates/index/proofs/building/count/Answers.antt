@@ -23,6 +23,5 @@ pub loop-k-preserved : goal.loop-k-preserved
 loop-k-preserved c =     (search rules, c.count_line.ensures.0, λ q h. omega (arith, c.count_line.ensures.1 q h, c.loop-k.invariant.2 q h, many_next c.args.heads.now c.args.bodies.now q c.loop-k.k))
 
 pub returns : goal.returns
-returns c =     let l = c.loop-k in
-    let e : l.k ≡ c.args.m = omega arith in
-    (l.invariant.1, λ q h. rw e at (l.invariant.2 q h))
+returns c =     let e : c.loop-k.k ≡ c.args.m = omega arith in
+    (c.loop-k.invariant.1, λ q h. rw e at (c.loop-k.invariant.2 q h))

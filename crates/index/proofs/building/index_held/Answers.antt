@@ -16,8 +16,7 @@ pub count-requires : goal.count-requires
 count-requires c = (refl, c.requires.0, c.requires.1, c.requires.3, λ q h. get_or-replicate max_variables q 0 0 h)
 
 pub accumulate-end-requires : goal.accumulate-end-requires
-accumulate-end-requires c =     let a = c.count in
-    (a.ensures.0, c.requires.2, counts_most c.args.heads.now c.args.bodies.now a.new.0 c.args.m a.ensures.1 c.args.n c.requires.2 c.requires.3)
+accumulate-end-requires c =     (c.count.ensures.0, c.requires.2, counts_most c.args.heads.now c.args.bodies.now c.count.new.counts c.args.m c.count.ensures.1 c.args.n c.requires.2 c.requires.3)
 
 pub returns-then-lists-end : goal.returns-then-lists-end
 returns-then-lists-end c f v l =

@@ -15,6 +15,5 @@ pub loop-i-preserved : goal.loop-i-preserved
 loop-i-preserved c =     (search rules, length-set c.loop-i.starts _ _ ∙ c.loop-i.invariant.1, rw c.loop-i.invariant.2 (row_more c.args.firsts.now c.args.starts.now c.loop-i.i (omega (arith, c.requires)) (omega (arith, c.requires))))
 
 pub returns : goal.returns
-returns c =     let l = c.loop-i in
-    let e : l.i ≡ c.args.n = omega arith in
-    rw (rw e at l.invariant.2) (front_last c.args.firsts.now c.args.starts.now c.args.n c.args.end (omega (arith, c.requires)) c.requires.2)
+returns c =     let e : c.loop-i.i ≡ c.args.n = omega arith in
+    rw (rw e at c.loop-i.invariant.2) (front_last c.args.firsts.now c.args.starts.now c.args.n c.args.end (omega (arith, c.requires)) c.requires.2)

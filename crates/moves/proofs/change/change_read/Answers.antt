@@ -26,7 +26,7 @@ change_held-requires c =
     let in_tables : (InTables (c.in-Next.p)) = rw c.in-Next.is at c.read.ensures.2 in
     let heads_fit : (HeadsInUseFit (c.args.constraint.now) (let l = c.read.new.variables in store_of l.0 l.1.0 l.1.1.0) (c.in-Next.p)) = rw c.in-Next.is at c.read.ensures.3 in
     let sized = c.read.ensures.1 in
-    (in_tables.variables, in_tables.lines, sized.heads-1, sized.bodies-1, λ row fits. lines_fit (c.args.constraint.now) (let l = c.read.new.variables in store_of l.0 l.1.0 l.1.1.0) (c.in-Next.p) row file_read heads_fit (fits (c.args.constraint.now)))
+    (in_tables.variables, in_tables.lines, sized.heads, sized.bodies, λ row fits. lines_fit (c.args.constraint.now) (let l = c.read.new.variables in store_of l.0 l.1.0 l.1.1.0) (c.in-Next.p) row file_read heads_fit (fits (c.args.constraint.now)))
 
 pub returns-in-Stop : goal.returns-in-Stop
 returns-in-Stop c = rw (← (rw c.in-Stop.is at c.read.ensures.0))
@@ -37,6 +37,6 @@ returns-in-Next c =
     let heads_fit : (HeadsInUseFit (c.args.constraint.now) (let l = c.read.new.variables in store_of l.0 l.1.0 l.1.1.0) (c.in-Next.p)) = rw c.in-Next.is at c.read.ensures.3 in
     let s = c.args in
     let f = stored_file (c.args.constraint.now) (let l = c.read.new.variables in store_of l.0 l.1.0 l.1.1.0) (c.in-Next.p) in
-    let lent = tables_of s.values-1.now s.verdicts-1.now s.results-1.now in
+    let lent = tables_of s.values.now s.verdicts.now s.results.now in
     let index = index_if s.through s.starts.now s.lists.now in
-    rw (← file_read) (◌∙◌ {b = change_for (file_of f.variables-1 f.lines) lent (changing s.i s.v index)} (c.change_held.ensures (c.args.constraint.now) heads_fit) (change_bare f lent s.i s.v index))
+    rw (← file_read) (◌∙◌ {b = change_for (file_of f.variables f.lines) lent (changing s.i s.v index)} (c.change_held.ensures (c.args.constraint.now) heads_fit) (change_bare f lent s.i s.v index))

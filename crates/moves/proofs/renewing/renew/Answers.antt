@@ -36,9 +36,8 @@ loop-k-preserved c =
     let most : ((c.renew_named-one.result.named ≤ 1) × (c.renew_named-one.result.altered ≤ 1)) = let k = c.loop-k.k in
     let j = c.requires.5 k c.loop-k-test.true in
     renewed_most (names c.args.i (line_in c.args.heads.now c.args.bodies.now k)) (judged_in j.variables c.args.row.now c.args.heads.now c.args.bodies.now k) k _ _ _ (c.renew_named-one.ensures j.variables j.heads_fit) in
-    let l = c.loop-k in
     let h = c.loop-k-test.true in
-    (search rules, search rules, search rules, omega (arith, most), omega (arith, most), λ xs f. named_next xs _ _ _ _ _ _ (omega arith, omega arith) _ _ _ _ (l.invariant.5 xs f) h _ _ (c.renew_named-one.ensures xs (f _ h)))
+    (search rules, search rules, search rules, omega (arith, most), omega (arith, most), λ xs f. named_next xs _ _ _ _ _ _ (omega arith, omega arith) _ _ _ _ (c.loop-k.invariant.5 xs f) h _ _ (c.renew_named-one.ensures xs (f _ h)))
 
 pub shape_of-verdicts : goal.shape_of-verdicts
 shape_of-verdicts c = c.loop-k.invariant.1
@@ -47,6 +46,5 @@ pub shape_of-results : goal.shape_of-results
 shape_of-results c = c.loop-k.invariant.2
 
 pub returns : goal.returns
-returns c xs f =     let l = c.loop-k in
-    let e : l.k ≡ c.args.m = omega arith in
-    named_end xs _ _ _ _ _ _ _ _ _ (rw e at (l.invariant.5 xs f))
+returns c xs f =     let e : c.loop-k.k ≡ c.args.m = omega arith in
+    named_end xs _ _ _ _ _ _ _ _ _ (rw e at (c.loop-k.invariant.5 xs f))

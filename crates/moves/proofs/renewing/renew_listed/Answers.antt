@@ -52,7 +52,6 @@ pub shape_of-results : goal.shape_of-results
 shape_of-results c = c.loop-k.invariant.2
 
 pub returns : goal.returns
-returns c xs f =     let l = c.loop-k in
-    let s = c.args in
-    let e : l.k ≡ length s.list.now = omega arith in
-    listed_end xs _ _ _ _ _ s.list.now _ _ (rw e at (l.invariant.4 xs f))
+returns c xs f =     let s = c.args in
+    let e : c.loop-k.k ≡ length s.list.now = omega arith in
+    listed_end xs _ _ _ _ _ s.list.now _ _ (rw e at (c.loop-k.invariant.4 xs f))

@@ -10,7 +10,7 @@ use Rattle.tables.proofs.reports.report.Goals as goal
 
 pub slice_bounds-verdicts-end : goal.slice_bounds-verdicts-end
 slice_bounds-verdicts-end c =
-    let tallied : (let o = c.o-1.given.0 in let k = c.check_lines in let a = c.args in (o.1.0 ≤ length k.new.1.1.1.0) × (Tallied o.0 (tally_of (take o.1.0 k.new.1.1.1.0)) ≡ report_outcome a.constraint.now a.answer.now)) = let a = c.args in
+    let tallied : (let a = c.args in (c.in-Done.m ≤ length c.check_lines.new.verdicts) × (Tallied c.in-Done.o (tally_of (take c.in-Done.m c.check_lines.new.verdicts)) ≡ report_outcome a.constraint.now a.answer.now)) = let a = c.args in
     let e = rw c.in-Done.is at c.check_lines.ensures in
     report_tallied a.constraint.now a.answer.now _ _ _ c.in-Done.o c.in-Done.m e.0 e.1 in
     tallied.0
@@ -20,7 +20,7 @@ slice_bounds-tally-end c = sym (length-take-le _ _ (array-share-prefix-verdicts 
 
 pub returns-in-Done : goal.returns-in-Done
 returns-in-Done c =
-    let tallied : (let o = c.o-1.given.0 in let k = c.check_lines in let a = c.args in (o.1.0 ≤ length k.new.1.1.1.0) × (Tallied o.0 (tally_of (take o.1.0 k.new.1.1.1.0)) ≡ report_outcome a.constraint.now a.answer.now)) = let a = c.args in
+    let tallied : (let a = c.args in (c.in-Done.m ≤ length c.check_lines.new.verdicts) × (Tallied c.in-Done.o (tally_of (take c.in-Done.m c.check_lines.new.verdicts)) ≡ report_outcome a.constraint.now a.answer.now)) = let a = c.args in
     let e = rw c.in-Done.is at c.check_lines.ensures in
     report_tallied a.constraint.now a.answer.now _ _ _ c.in-Done.o c.in-Done.m e.0 e.1 in
     rw c.tally.ensures tallied.1

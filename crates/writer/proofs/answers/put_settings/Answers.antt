@@ -14,10 +14,9 @@ put_setting-end-requires c =     let a = c.args in
     putting_room c.loop-i.invariant (rw all at c.requires.2) c.loop-i-test.true
 
 pub loop-i-preserved : goal.loop-i-preserved
-loop-i-preserved c =     let p = c.put_setting-end in
-    let a = c.args in
+loop-i-preserved c =     let a = c.args in
     let all = settings_are a.file.now a.variables.now a.row.now a.n (omega (arith, c.requires.1)) in
-    putting_more c.loop-i.invariant (rw all at c.requires.2) c.loop-i-test.true p.auto.1.1.1.0 p.ensures
+    putting_more c.loop-i.invariant (rw all at c.requires.2) c.loop-i-test.true c.put_setting-end.auto.room c.put_setting-end.ensures
 
 pub shape_of-room : goal.shape_of-room
 shape_of-room c = c.loop-i.invariant.whole
