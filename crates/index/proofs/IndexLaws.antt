@@ -25,13 +25,13 @@ not_below n m (false ∷ bs) h = not_below n (suc m) bs (omega arith)
 pub numbered_own : (g : Line → Bool) (n : ℕ) (ls : List Line) → numbered (numbers_from n (map g ls)) n ls ≡ map g ls
 unfolding numbered numbers_from
 numbered_own g n [] = refl
-numbered_own g n (l ∷ ls) = go (g l) refl (numbered_own g (suc n) ls)
+numbered_own g n (l ∷ ls) = go (g l) (numbered_own g (suc n) ls)
   where
-    go : (b : Bool) → g l ≡ b → numbered (numbers_from (suc n) (map g ls)) (suc n) ls ≡ map g ls → numbered (numbers_from n (g l ∷ map g ls)) n (l ∷ ls) ≡ g l ∷ map g ls
-    go true e rest =
+    go : (b : Bool) → numbered (numbers_from (suc n) (map g ls)) (suc n) ls ≡ map g ls → numbered (numbers_from n (b ∷ map g ls)) n (l ∷ ls) ≡ b ∷ map g ls
+    go true rest =
         let ns = numbers_from (suc n) (map g ls) in
-        rw (e, one_of_cons n n ns, eq-eqb n n refl, numbered_below n (suc n) ns ls (omega arith), rest) refl
-    go false e rest = rw (e, not_below n (suc n) (map g ls) (omega arith), rest) refl
+        rw (one_of_cons n n ns, eq-eqb n n refl, numbered_below n (suc n) ns ls (omega arith), rest) refl
+    go false rest = rw (not_below n (suc n) (map g ls) (omega arith), rest) refl
 
 pub own_list_selects : (f : File) (i : ℕ) → numbered (own_list f i) 1 f.lines ≡ naming f i
 unfolding own_list naming

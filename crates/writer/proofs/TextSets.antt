@@ -51,7 +51,7 @@ text_letters : (xs : List Variable) (row : List ℕ) → Printables xs row → l
 unfolding letters letter_of flat_map leads every is_space
 text_letters [] row g = rw (text_lines_lem [] row g)
 text_letters (x ∷ xs) [] g = absurd g
-text_letters (x ∷ xs) (v ∷ row) g = rw (text_lines_lem (x ∷ xs) (v ∷ row) g, letter_of, leads_values 99 x xs v row, leads_values 115 x xs v row, leads_values 118 x xs v row)
+text_letters (x ∷ xs) (v ∷ row) g = rw (text_lines_lem (x ∷ xs) (v ∷ row) g, letter_of, leads_values 99 x xs v row, leads_values 118 x xs v row)
 
 -- the token of its `s` line
 text_word : (xs : List Variable) (row : List ℕ) → Printables xs row → map (λ t. t.bytes) (tokens_of (code "s") (answer_text xs row)) ≡ satisfiable ∷ []

@@ -28,5 +28,5 @@ returns-in-Stop c = rw (← (rw c.in-Stop.is at c.read.ensures.0))
 pub returns-in-Next : goal.returns-in-Next
 unfolding indexing
 returns-in-Next c =
-    let file_read : (accepted (stored_file (c.args.constraint.now) (let l = c.read.new.variables in store_of l.0 l.1.0 l.1.1.0) (c.in-Next.p)) ≡ read_file (c.args.constraint.now)) = rw c.in-Next.is at c.read.ensures.0 in
-    rw (← file_read) (c.index_held.ensures (stored_file (c.args.constraint.now) (let l = c.read.new.variables in store_of l.0 l.1.0 l.1.1.0) (c.in-Next.p)) (variables_length (c.args.constraint.now) (let l = c.read.new.variables in store_of l.0 l.1.0 l.1.1.0).variables (c.in-Next.p).variables) refl)
+    let file_read : (accepted (stored_file (c.args.constraint.now) (store_of c.read.new.variables c.read.new.heads c.read.new.bodies) (c.in-Next.p)) ≡ read_file (c.args.constraint.now)) = rw c.in-Next.is at c.read.ensures.0 in
+    rw (← file_read) (c.index_held.ensures (stored_file (c.args.constraint.now) (store_of c.read.new.variables c.read.new.heads c.read.new.bodies) (c.in-Next.p)) (variables_length (c.args.constraint.now) (store_of c.read.new.variables c.read.new.heads c.read.new.bodies).variables (c.in-Next.p).variables) refl)

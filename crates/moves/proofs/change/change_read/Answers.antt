@@ -22,21 +22,21 @@ read-requires c = (search rules, searchable_none _)
 
 pub change_held-requires : goal.change_held-requires
 change_held-requires c =
-    let file_read : (accepted (stored_file (c.args.constraint.now) (let l = c.read.new.variables in store_of l.0 l.1.0 l.1.1.0) (c.in-Next.p)) ≡ read_file (c.args.constraint.now)) = rw c.in-Next.is at c.read.ensures.0 in
+    let file_read : (accepted (stored_file (c.args.constraint.now) (store_of c.read.new.variables c.read.new.heads c.read.new.bodies) (c.in-Next.p)) ≡ read_file (c.args.constraint.now)) = rw c.in-Next.is at c.read.ensures.0 in
     let in_tables : (InTables (c.in-Next.p)) = rw c.in-Next.is at c.read.ensures.2 in
-    let heads_fit : (HeadsInUseFit (c.args.constraint.now) (let l = c.read.new.variables in store_of l.0 l.1.0 l.1.1.0) (c.in-Next.p)) = rw c.in-Next.is at c.read.ensures.3 in
+    let heads_fit : (HeadsInUseFit (c.args.constraint.now) (store_of c.read.new.variables c.read.new.heads c.read.new.bodies) (c.in-Next.p)) = rw c.in-Next.is at c.read.ensures.3 in
     let sized = c.read.ensures.1 in
-    (in_tables.variables, in_tables.lines, sized.heads, sized.bodies, λ row fits. lines_fit (c.args.constraint.now) (let l = c.read.new.variables in store_of l.0 l.1.0 l.1.1.0) (c.in-Next.p) row file_read heads_fit (fits (c.args.constraint.now)))
+    (in_tables.variables, in_tables.lines, sized.heads, sized.bodies, λ row fits. lines_fit (c.args.constraint.now) (store_of c.read.new.variables c.read.new.heads c.read.new.bodies) (c.in-Next.p) row file_read heads_fit (fits (c.args.constraint.now)))
 
 pub returns-in-Stop : goal.returns-in-Stop
 returns-in-Stop c = rw (← (rw c.in-Stop.is at c.read.ensures.0))
 
 pub returns-in-Next : goal.returns-in-Next
 returns-in-Next c =
-    let file_read : (accepted (stored_file (c.args.constraint.now) (let l = c.read.new.variables in store_of l.0 l.1.0 l.1.1.0) (c.in-Next.p)) ≡ read_file (c.args.constraint.now)) = rw c.in-Next.is at c.read.ensures.0 in
-    let heads_fit : (HeadsInUseFit (c.args.constraint.now) (let l = c.read.new.variables in store_of l.0 l.1.0 l.1.1.0) (c.in-Next.p)) = rw c.in-Next.is at c.read.ensures.3 in
+    let file_read : (accepted (stored_file (c.args.constraint.now) (store_of c.read.new.variables c.read.new.heads c.read.new.bodies) (c.in-Next.p)) ≡ read_file (c.args.constraint.now)) = rw c.in-Next.is at c.read.ensures.0 in
+    let heads_fit : (HeadsInUseFit (c.args.constraint.now) (store_of c.read.new.variables c.read.new.heads c.read.new.bodies) (c.in-Next.p)) = rw c.in-Next.is at c.read.ensures.3 in
     let s = c.args in
-    let f = stored_file (c.args.constraint.now) (let l = c.read.new.variables in store_of l.0 l.1.0 l.1.1.0) (c.in-Next.p) in
+    let f = stored_file (c.args.constraint.now) (store_of c.read.new.variables c.read.new.heads c.read.new.bodies) (c.in-Next.p) in
     let lent = tables_of s.values.now s.verdicts.now s.results.now in
     let index = index_if s.through s.starts.now s.lists.now in
     rw (← file_read) (◌∙◌ {b = change_for (file_of f.variables f.lines) lent (changing s.i s.v index)} (c.change_held.ensures (c.args.constraint.now) heads_fit) (change_bare f lent s.i s.v index))
