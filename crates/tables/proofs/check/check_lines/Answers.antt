@@ -43,7 +43,7 @@ store_row-requires c =
 pub slice_bounds-row-end : goal.slice_bounds-row-end
 slice_bounds-row-end c =
     let few : (InTables (c.in-Next.p)) = rw c.in-Next.is at c.read.ensures.2 in
-    let row-whole : ((c.in-Next.p).variables ≤ length c.read_answer.new.row) = let h = few.variables-1 in
+    let row-whole : ((c.in-Next.p).variables ≤ length c.read_answer.new.row) = let h = few.variables in
     let l = c.read_answer.ensures.1 in
     omega arith in
     row-whole
@@ -51,7 +51,7 @@ slice_bounds-row-end c =
 pub slice_bounds-judge_all-end : goal.slice_bounds-judge_all-end
 slice_bounds-judge_all-end c =
     let few : (InTables (c.in-Next.p)) = rw c.in-Next.is at c.read.ensures.2 in
-    let row-whole : ((c.in-Next.p).variables ≤ length c.read_answer.new.row) = let h = few.variables-1 in
+    let row-whole : ((c.in-Next.p).variables ≤ length c.read_answer.new.row) = let h = few.variables in
     let l = c.read_answer.ensures.1 in
     omega arith in
     sym (length-take-le _ _ row-whole)
@@ -82,7 +82,15 @@ slice_bounds-overall-end c =
     omega (arith, room.1, c.judge_all.auto)
 
 pub slice_bounds-overall-end-in-Pass : goal.slice_bounds-overall-end-in-Pass
-slice_bounds-overall-end-in-Pass c = sym (length-take-le _ _ (slice-reshare-prefix-overall c))
+slice_bounds-overall-end-in-Pass c =
+    let tested : (gate_result c.tables_room.result ≡ tables_room (stored_file (c.args.constraint.now) (store_of c.read.new.variables c.read.new.heads c.read.new.bodies) (c.in-Next.p)) (room_of (let a = c.args in tables_of a.values.now a.verdicts.now a.results.now))) = c.tables_room.ensures (stored_file (c.args.constraint.now) (store_of c.read.new.variables c.read.new.heads c.read.new.bodies) (c.in-Next.p)) (variables_held (c.args.constraint.now) (store_of c.read.new.variables c.read.new.heads c.read.new.bodies) (c.in-Next.p)) (lines_held (c.args.constraint.now) (store_of c.read.new.variables c.read.new.heads c.read.new.bodies) (c.in-Next.p)) in
+    let passed : (accepted tt ≡ tables_room (stored_file (c.args.constraint.now) (store_of c.read.new.variables c.read.new.heads c.read.new.bodies) (c.in-Next.p)) (room_of (let a = c.args in tables_of a.values.now a.verdicts.now a.results.now))) = rw c.in-Pass.is at tested in
+    let room : (let a = c.args in ((c.in-Next.p).variables ≤ length a.values.now) × ((c.in-Next.p).lines ≤ length a.verdicts.now) × ((c.in-Next.p).lines ≤ length a.results.now)) = let h = accepted_room (stored_file (c.args.constraint.now) (store_of c.read.new.variables c.read.new.heads c.read.new.bodies) (c.in-Next.p)) (room_of (let a = c.args in tables_of a.values.now a.verdicts.now a.results.now)) (sym passed) in
+    let n = variables_held (c.args.constraint.now) (store_of c.read.new.variables c.read.new.heads c.read.new.bodies) (c.in-Next.p) in
+    let m = lines_held (c.args.constraint.now) (store_of c.read.new.variables c.read.new.heads c.read.new.bodies) (c.in-Next.p) in
+    (rw n at h.values, rw m at h.verdicts, rw m at h.results) in
+    let h : (c.in-Next.p.lines ≤ length c.judge_all.new.verdicts) = omega (arith, room.1, c.judge_all.auto) in
+    sym (length-take-le _ _ h)
 
 pub returns-in-Stop : goal.returns-in-Stop
 returns-in-Stop c =     let a = c.args in

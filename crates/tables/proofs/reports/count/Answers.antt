@@ -1,6 +1,5 @@
 use Prim.Native.Nat.{◌+◌, ◌-◌, ◌≤◌}
 use mathlib.Core.Path.{◌≡◌}
-use mathlib.Core.Logic.{⊎_elim}
 use native.Mathlib.Omega.{arith}
 use lib.Dec.{eqb}
 use lib.ListN.{length, get_or, drop}
@@ -9,6 +8,7 @@ use borrow.Author.Tests.{eq-eqb, ne_eqb}
 use Rattle.refusal.specs.Lists.{how_many}
 use Rattle.refusal.proofs.ManyLaws.{many_here, many_later, many_nowhere}
 use Rattle.tables.proofs.reports.count.Goals as goal
+use Rattle.tables.proofs.reports.count.Goals.{then-v-verdicts, else-v-verdicts}
 
 pub loop-i-init : goal.loop-i-init
 loop-i-init c = (search rules, search rules, search rules)
@@ -17,10 +17,10 @@ pub loop-i-preserved : goal.loop-i-preserved
 loop-i-preserved c =     let i = c.loop-i.i in
     let v = c.args.v in
     let vs = c.args.verdicts.now in
-    ⊎_elim
-    (λ w. let e = many_here (eqb v) vs i 0 c.loop-i-test.true (eq-eqb v (get_or vs i 0) w.0.taken) in (search rules, omega arith, omega arith))
-    (λ w. let e = many_later (eqb v) vs i 0 c.loop-i-test.true (ne_eqb v (get_or vs i 0) w.0.left) in (search rules, omega arith, omega arith))
-    c.if-v-verdicts.branch
+    elim c.if-v-verdicts.branch [
+      | then-v-verdicts w ↦ let e = many_here (eqb v) vs i 0 c.loop-i-test.true (eq-eqb v (get_or vs i 0) w.if-v-verdicts.true) in (search rules, omega arith, omega arith)
+      | else-v-verdicts w ↦ let e = many_later (eqb v) vs i 0 c.loop-i-test.true (ne_eqb v (get_or vs i 0) w.if-v-verdicts.false) in (search rules, omega arith, omega arith)
+    ]
 
 pub returns : goal.returns
 returns c =     let e = many_nowhere (eqb c.args.v) c.args.verdicts.now c.loop-i.i c.loop-i-test.false in

@@ -16,7 +16,11 @@ slice_bounds-verdicts-end c =
     tallied.0
 
 pub slice_bounds-tally-end : goal.slice_bounds-tally-end
-slice_bounds-tally-end c = sym (length-take-le _ _ (array-share-prefix-verdicts c))
+slice_bounds-tally-end c =
+    let tallied : (let a = c.args in (c.in-Done.m ≤ length c.check_lines.new.verdicts) × (Tallied c.in-Done.o (tally_of (take c.in-Done.m c.check_lines.new.verdicts)) ≡ report_outcome a.constraint.now a.answer.now)) = let a = c.args in
+    let e = rw c.in-Done.is at c.check_lines.ensures in
+    report_tallied a.constraint.now a.answer.now _ _ _ c.in-Done.o c.in-Done.m e.0 e.1 in
+    sym (length-take-le _ _ tallied.0)
 
 pub returns-in-Done : goal.returns-in-Done
 returns-in-Done c =
