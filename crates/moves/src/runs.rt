@@ -27,7 +27,7 @@ fn change_lent(
     i: usize,
     v: u64,
 ) -> ChangeReply
-    ensures { record { reply = result; tables = tables_of values.exit.now verdicts.new results.new } ≡ turn_outcome change_outcome constraint.now (tables_of values.entry.now verdicts.old results.old) (record { call = changing i v (index_if through starts.now lists.now); lent = record { values = p; verdicts = q; results = s } }) }
+    ensures { record { reply = result; tables = tables_of values.new verdicts.new results.new } ≡ turn_outcome change_outcome constraint.now (tables_of values.old verdicts.old results.old) (record { call = changing i v (index_if through starts.now lists.now); lent = record { values = p; verdicts = q; results = s } }) }
 {
     let k = lesser(p, values.len());
     let l = lesser(q, verdicts.len());
@@ -57,7 +57,7 @@ pub fn change_front(
     i: usize,
     v: u64,
 ) -> ChangeReply
-    ensures { record { reply = result; tables = tables_of values.exit.now verdicts.new results.new } ≡ turn_outcome change_outcome constraint.now (tables_of values.entry.now verdicts.old results.old) (record { call = changing i v none; lent = record { values = p; verdicts = q; results = s } }) }
+    ensures { record { reply = result; tables = tables_of values.new verdicts.new results.new } ≡ turn_outcome change_outcome constraint.now (tables_of values.old verdicts.old results.old) (record { call = changing i v none; lent = record { values = p; verdicts = q; results = s } }) }
 {
     let unused = [0u32; 0];
     change_lent(
@@ -79,7 +79,7 @@ pub fn change_front_through(
     i: usize,
     v: u64,
 ) -> ChangeReply
-    ensures { record { reply = result; tables = tables_of values.exit.now verdicts.new results.new } ≡ turn_outcome change_outcome constraint.now (tables_of values.entry.now verdicts.old results.old) (record { call = changing i v (some (index_of starts.now lists.now)); lent = record { values = p; verdicts = q; results = s } }) }
+    ensures { record { reply = result; tables = tables_of values.new verdicts.new results.new } ≡ turn_outcome change_outcome constraint.now (tables_of values.old verdicts.old results.old) (record { call = changing i v (some (index_of starts.now lists.now)); lent = record { values = p; verdicts = q; results = s } }) }
 {
     change_lent(
         constraint, values, p, verdicts, q, results, s, true, starts, lists, i, v,

@@ -21,5 +21,4 @@ slice_bounds-change_read-end-6 c = sym (length-take-le c.lesser-m.result c.args.
 pub returns : goal.returns
 returns c =     let s = c.args in
     let turn : Turn = record { call = changing s.i s.v (index_if s.through s.starts.now s.lists.now); lent = record { values = s.p; verdicts = s.q; results = s.s } } in
-    let left = c.change_read.new.values in
-    front_lent s.constraint.now (tables_of s.values.now s.verdicts.now s.results.now) turn c.lesser-k.result c.lesser-l.result c.lesser-m.result (record { reply = c.change_read.result; tables = tables_of left.0 left.1.0 left.1.1.0 }) c.lesser-k.ensures c.lesser-l.ensures c.lesser-m.ensures c.change_read.ensures
+    front_lent s.constraint.now (tables_of s.values.now s.verdicts.now s.results.now) turn c.lesser-k.result c.lesser-l.result c.lesser-m.result (record { reply = c.change_read.result; tables = tables_of c.change_read.new.values c.change_read.new.verdicts c.change_read.new.results }) c.lesser-k.ensures c.lesser-l.ensures c.lesser-m.ensures c.change_read.ensures
