@@ -3,6 +3,7 @@ pub mod Powers
 pub mod PlaceLaws
 pub mod SignedLaws
 pub mod ModuloLaws
+pub mod DivisionLaws
 pub mod OrderLaws
 pub mod RuleLaws
 pub mod AlikeLaws

@@ -1,18 +1,22 @@
 -- What is claimed of the meanings, for every width.
-use Rattle.std.specs.Prelude.{ℕ, ◌-◌, ◌≤◌, ◌<◌, ◌^◌, ◌≡◌, Bool, true, false, not, eqb, leb, ltb, pos, neg_ℤ, ◌≤ℤ◌, ◌<ℤ◌}
+use Rattle.std.specs.Prelude.{ℕ, suc, ◌-◌, ◌*◌, ◌≤◌, ◌<◌, ◌^◌, ◌≡◌, Bool, true, false, not, eqb, leb, ltb, ℤ, pos, negsuc, neg_ℤ, nat_abs, ◌≤ℤ◌, ◌<ℤ◌}
+use Rattle.std.specs.Bool.{beq}
 use Rattle.std.proofs.Math.Option.{none, some}
-use Rattle.std.specs.Int.Signed.{le_z, lt_z}
+use Rattle.std.specs.Int.Signed.{le_z, lt_z, non_neg}
 use Rattle.arithmetic.specs.declared.Operator.{Operator}
 use Rattle.arithmetic.specs.declared.Operator.TheVariants.{Combine, Not, Implies, Compare, Ite, Compute, Divide, Move, Trun, Extend, Conc, Extr}
 use Rattle.arithmetic.specs.declared.Comparison.{Comparison}
 use Rattle.arithmetic.specs.declared.Comparison.TheVariants.{Equal, NotEqual, Ule, Uge, Ult, Ugt, Sle, Sge, Slt, Sgt}
+use Rattle.arithmetic.specs.declared.Arithmetic.TheVariants.{Add, Mul}
+use Rattle.arithmetic.specs.declared.Division.{Division}
+use Rattle.arithmetic.specs.declared.Division.TheVariants.{Udiv, Urem}
 use Rattle.arithmetic.specs.declared.Shift.TheVariants.{Shl, Ashr, Lshr}
 use Rattle.arithmetic.specs.declared.Word.{Word}
 use Rattle.arithmetic.specs.Rules.{widths_hold, typed, operands_fit}
 use Rattle.arithmetic.specs.Bits.{bit, places}
 use Rattle.arithmetic.specs.Signed.{signed, modulo}
 use Rattle.arithmetic.specs.Flags.{compared}
-use Rattle.arithmetic.specs.Arithmetic.{shifted}
+use Rattle.arithmetic.specs.Arithmetic.{computed, divided, shifted}
 use Rattle.arithmetic.specs.Meaning.{meaning}
 
 -- plain order: of the numbers, or of their signed readings at width k
@@ -78,3 +82,40 @@ pub record ShiftedOut (k a n : ℕ) : Type 0 where
 
 abbrev pub LargeAmounts : Type 0
 LargeAmounts = (k a n : ℕ) → 1 ≤ k → a < 2 ^ k → k ≤ n → ShiftedOut k a n
+
+-- q is the exact quotient of x by y, cut towards zero
+pub record CutTowardsZero (x y q : ℤ) : Type 0 where
+  -- |q| times |y| is at most |x|, and |q| + 1 times |y| is above it
+  pub reaches : nat_abs q * nat_abs y ≤ nat_abs x
+  pub next_exceeds : nat_abs x < suc (nat_abs q) * nat_abs y
+  -- unless it is zero, q is positive where the signs agree and negative where they differ
+  pub sign_of_quotient : (q ≡ pos 0 → ⊥) → non_neg q ≡ beq (non_neg x) (non_neg y)
+
+-- -2^(k-1) by -1: of signed integers of k bits the one quotient that leaves their range
+abbrev pub LeavesRange : ℕ → ℤ → ℤ → Type 0
+LeavesRange k x y = (x ≡ neg_ℤ (pos (2 ^ (k - 1)))) × (y ≡ negsuc 0)
+
+-- q is the quotient and r the remainder of a by b, all of k bits and read as integers by `reading`
+pub record Divides (reading : ℕ → ℤ) (k a b q r : ℕ) : Type 0 where
+  -- quotient times divisor plus remainder is the dividend, modulo 2^k
+  pub adds_up : computed Add k (computed Mul k q b) r ≡ a
+  -- the remainder is smaller in size than the divisor; one that is not zero has the dividend's sign
+  pub remainder_small : nat_abs (reading r) < nat_abs (reading b)
+  pub sign_of_remainder : (r ≡ 0 → ⊥) → non_neg (reading r) ≡ non_neg (reading a)
+  -- the exact quotient, cut towards zero
+  pub towards_zero : (LeavesRange k (reading a) (reading b) → ⊥) → CutTowardsZero (reading a) (reading b) (reading q)
+  pub wraps : LeavesRange k (reading a) (reading b) → q ≡ 2 ^ (k - 1)
+
+-- two operators give quotient and remainder for every divisor that is not zero
+abbrev pub Divisions : (ℕ → ℕ → ℤ) → Division → Division → Type 0
+Divisions reading quotient_of remainder_of =
+    (k a b : ℕ)
+    → 1 ≤ k
+    → a < 2 ^ k
+    → b < 2 ^ k
+    → 0 < b
+    → Divides (reading k) k a b (divided quotient_of k a b) (divided remainder_of k a b)
+
+-- `/u` and `%u`, of the numbers themselves
+abbrev pub UnsignedDivisions : Type 0
+UnsignedDivisions = Divisions (λ k a. pos a) Udiv Urem

@@ -1,7 +1,7 @@
 // The claims: each is the contract of an empty function, so that a check lists it by name.
 ghost use Rattle.arithmetic.specs.Cases.{TableCases};
 ghost use Rattle.arithmetic.specs.Numbering.{NumbersGiveBack};
-ghost use Rattle.arithmetic.specs.Claims.{Orders, ResultsFit, SignedReading, LargeAmounts};
+ghost use Rattle.arithmetic.specs.Claims.{Orders, ResultsFit, SignedReading, UnsignedDivisions, LargeAmounts};
 
 // The comparisons by flags are plain order, at every width.
 pub fn orders()
@@ -16,6 +16,11 @@ pub fn results_fit()
 // The signed reading lies from -2^(k-1) to 2^(k-1)-1.
 pub fn signed_reading()
     ensures { SignedReading }
+{}
+
+// `/u` and `%u` are the quotient cut towards zero and its remainder.
+pub fn unsigned_divisions()
+    ensures { UnsignedDivisions }
 {}
 
 // A shift by the width or more leaves nothing, or the top bit everywhere.

@@ -7,10 +7,10 @@ use Rattle.arithmetic.proofs.rules.fits.Goals as goal
 
 pub returns-then-w-lt-WORD_BITS : goal.returns-then-w-lt-WORD_BITS
 unfolding fits
-returns-then-w-lt-WORD_BITS c =     let w = c.args.w in
+returns-then-w-lt-WORD_BITS c = let w = c.args.w in
     fits_shr w.value w.width
 
 pub returns-else-w-lt-WORD_BITS : goal.returns-else-w-lt-WORD_BITS
 unfolding fits
-returns-else-w-lt-WORD_BITS c =     let w = c.args.w in
+returns-else-w-lt-WORD_BITS c = let w = c.args.w in
     sym (fits_wide w.value w.width c.struct_known-1.given.1.0.fits (omega arith))

@@ -7,8 +7,8 @@ use Rattle.arithmetic.proofs.rules.joins.Goals as goal
 
 pub returns-then-x-k : goal.returns-then-x-k
 unfolding joins
-returns-then-x-k c =     rw (joins-sub c.args.k c.args.x c.args.y c.if-x-k.true)
+returns-then-x-k c = rw (joins-sub c.args.k c.args.x c.args.y c.if-x-k.true)
 
 pub returns-else-x-k : goal.returns-else-x-k
 unfolding joins
-returns-else-x-k c =     rw (ne_eqb c.args.k (c.args.x + c.args.y) (omega arith))
+returns-else-x-k c = rw (ne_eqb c.args.k (c.args.x + c.args.y) (omega arith))

@@ -10,7 +10,3 @@ returns-then-k-lt-WORD_BITS c = rw (one_shl c.args.k c.if-k-lt-WORD_BITS.true)
 
 pub returns-else-k-lt-WORD_BITS : goal.returns-else-k-lt-WORD_BITS
 returns-else-k-lt-WORD_BITS c = sym (mod-eq_of_lt (lt_of_lt_of_le c.ranges.x.fits (pow_mono c.if-k-lt-WORD_BITS.false)))
-
-
-
-

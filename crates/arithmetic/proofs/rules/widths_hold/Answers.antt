@@ -8,5 +8,5 @@ use Rattle.arithmetic.proofs.rules.widths_hold.Goals as goal
 
 pub returns : goal.returns
 unfolding widths_hold
-returns c =     let s = c.args in
+returns c = let s = c.args in
     rw (c.taken.ensures, c.arity.ensures, c.is_width-x.ensures, c.is_width-y.ensures, c.is_width-z.ensures, c.is_width.ensures) (ap (λ t. is_width s.k && t) (sym (taken_is s.op (λ w. is_width w.width) s.a s.b s.c)))
