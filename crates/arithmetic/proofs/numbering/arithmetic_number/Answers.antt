@@ -1,5 +1,4 @@
 use Rattle.arithmetic.specs.Numbering.{arithmetic_number}
-use borrow.Author.Rules.{rules}
 use Rattle.arithmetic.proofs.numbering.arithmetic_number.Goals as goal
 
 pub returns-in-Add : goal.returns-in-Add

@@ -1,5 +1,4 @@
 use Rattle.arithmetic.specs.Numbering.{bitwise_number}
-use borrow.Author.Rules.{rules}
 use Rattle.arithmetic.proofs.numbering.bitwise_number.Goals as goal
 
 pub returns-in-And : goal.returns-in-And

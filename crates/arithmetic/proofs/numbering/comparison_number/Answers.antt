@@ -1,5 +1,4 @@
 use Rattle.arithmetic.specs.Numbering.{comparison_number}
-use borrow.Author.Rules.{rules}
 use Rattle.arithmetic.proofs.numbering.comparison_number.Goals as goal
 
 pub returns-in-Equal : goal.returns-in-Equal

@@ -1,5 +1,4 @@
 use Rattle.arithmetic.specs.Numbering.{division_number}
-use borrow.Author.Rules.{rules}
 use Rattle.arithmetic.proofs.numbering.division_number.Goals as goal
 
 pub returns-in-Udiv : goal.returns-in-Udiv

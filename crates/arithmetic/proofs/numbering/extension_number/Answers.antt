@@ -1,5 +1,4 @@
 use Rattle.arithmetic.specs.Numbering.{extension_number}
-use borrow.Author.Rules.{rules}
 use Rattle.arithmetic.proofs.numbering.extension_number.Goals as goal
 
 pub returns-in-Sext : goal.returns-in-Sext

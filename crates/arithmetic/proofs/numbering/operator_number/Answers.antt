@@ -1,5 +1,4 @@
 use Rattle.arithmetic.specs.Numbering.{operator_number}
-use borrow.Author.Rules.{rules}
 use Rattle.arithmetic.proofs.numbering.operator_number.Goals as goal
 
 pub returns-in-Combine : goal.returns-in-Combine

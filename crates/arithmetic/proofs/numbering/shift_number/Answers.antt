@@ -1,5 +1,4 @@
 use Rattle.arithmetic.specs.Numbering.{shift_number}
-use borrow.Author.Rules.{rules}
 use Rattle.arithmetic.proofs.numbering.shift_number.Goals as goal
 
 pub returns-in-Shl : goal.returns-in-Shl

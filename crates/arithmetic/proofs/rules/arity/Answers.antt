@@ -1,5 +1,4 @@
 use Rattle.arithmetic.specs.Rules.{arity}
-use borrow.Author.Rules.{rules}
 use Rattle.arithmetic.proofs.rules.arity.Goals as goal
 
 pub returns-in-Not : goal.returns-in-Not

@@ -1,6 +1,5 @@
 use Rattle.arithmetic.specs.Rules.{cuts}
 use borrow.Author.Tests.{lt-ltb, le-ltb}
-use borrow.Author.Rules.{rules}
 use Rattle.arithmetic.proofs.rules.cuts.Goals as goal
 
 pub returns-then-n-m : goal.returns-then-n-m

@@ -2,7 +2,6 @@ use mathlib.Core.Path.{sym}
 use native.Mathlib.Omega.{arith}
 use Rattle.arithmetic.specs.Rules.{fits}
 use Rattle.arithmetic.proofs.RuleLaws.{fits_shr, fits_wide}
-use borrow.Author.Rules.{rules}
 use Rattle.arithmetic.proofs.rules.fits.Goals as goal
 
 pub returns-then-w-lt-WORD_BITS : goal.returns-then-w-lt-WORD_BITS

@@ -1,7 +1,6 @@
 use mathlib.Core.Path.{sym, ◌∙◌}
 use Rattle.arithmetic.specs.Rules.{fits, operands_fit}
 use Rattle.arithmetic.proofs.RuleLaws.{taken_is}
-use borrow.Author.Rules.{rules}
 use Rattle.arithmetic.proofs.rules.operands_fit.Goals as goal
 
 pub returns : goal.returns

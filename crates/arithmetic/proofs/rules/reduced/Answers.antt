@@ -1,8 +1,7 @@
 use mathlib.Core.Path.{sym}
 use native.Mathlib.Nat.{lt_of_lt_of_le, mod-eq_of_lt}
-use lib.Pow.{pow_mono, pow_pos}
+use lib.Pow.{pow_mono}
 use Rattle.arithmetic.proofs.Powers.{one_shl}
-use borrow.Author.Rules.{rules}
 use Rattle.arithmetic.proofs.rules.reduced.Goals as goal
 
 pub returns-then-k-lt-WORD_BITS : goal.returns-then-k-lt-WORD_BITS

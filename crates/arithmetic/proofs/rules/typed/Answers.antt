@@ -1,5 +1,4 @@
 use Rattle.arithmetic.specs.Rules.{typed}
-use borrow.Author.Rules.{rules}
 use Rattle.arithmetic.proofs.rules.typed.Goals as goal
 
 pub returns-in-Combine : goal.returns-in-Combine

@@ -3,7 +3,6 @@ use mathlib.Core.Bool.{◌&&◌}
 use Rattle.edition.specs.Edition.{is_width}
 use Rattle.arithmetic.specs.Rules.{widths_hold}
 use Rattle.arithmetic.proofs.RuleLaws.{taken_is}
-use borrow.Author.Rules.{rules}
 use Rattle.arithmetic.proofs.rules.widths_hold.Goals as goal
 
 pub returns : goal.returns

@@ -1,4 +1,3 @@
-use borrow.Author.Rules.{rules}
 use Rattle.refusal.proofs.Subject.word.Goals as goal
 
 pub returns-in-Constraint : goal.returns-in-Constraint

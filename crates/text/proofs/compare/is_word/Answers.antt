@@ -1,6 +1,5 @@
 use mathlib.Core.Path.{◌∙◌}
 use lib.Seq.{take-length}
-use borrow.Author.Rules.{rules}
 use Rattle.text.proofs.compare.is_word.Goals as goal
 
 pub returns : goal.returns

@@ -1,5 +1,4 @@
 use Rattle.text.proofs.CompareLaws.{at_two}
-use borrow.Author.Rules.{rules}
 use Rattle.text.proofs.compare.same2.Goals as goal
 
 pub returns : goal.returns

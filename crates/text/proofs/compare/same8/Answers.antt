@@ -1,5 +1,4 @@
 use Rattle.text.proofs.CompareLaws.{at_add}
-use borrow.Author.Rules.{rules}
 use Rattle.text.proofs.compare.same8.Goals as goal
 
 pub returns : goal.returns

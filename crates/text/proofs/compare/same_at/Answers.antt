@@ -1,9 +1,5 @@
-use Prim.Native.Nat.{◌+◌, ◌-◌, ◌≤◌}
-use mathlib.Core.Path.{◌≡◌, sym, ◌∙◌}
+use mathlib.Core.Path.{sym, ◌∙◌}
 use native.Mathlib.Omega.{arith}
-use lib.ListN.{length, take, drop}
-use borrow.Author.Rules.{rules}
-use Rattle.text.specs.Bytes.{same}
 use Rattle.text.proofs.NameLaws.{same_from, same_first, same_short}
 use Rattle.text.proofs.CompareLaws.{block_same, block_other}
 use Rattle.text.proofs.compare.same_at.Goals as goal

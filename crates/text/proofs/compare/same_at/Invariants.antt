@@ -1,11 +1,8 @@
 use Prim.Native.Nat.{◌+◌, ◌-◌, ◌≤◌}
-use mathlib.Core.Path.{◌≡◌, sym, ◌∙◌}
-use native.Mathlib.Omega.{arith}
+use mathlib.Core.Path.{◌≡◌}
 use lib.ListN.{length, take, drop}
-use borrow.Author.Rules.{rules}
 use Rattle.text.specs.Bytes.{same}
-use Rattle.text.proofs.NameLaws.{same_from, same_first, same_short}
-use Rattle.text.proofs.CompareLaws.{block_same, block_other}
+use Rattle.text.proofs.NameLaws.{same_from}
 use Rattle.text.proofs.compare.same_at.Given as goal
 
 -- `same_at` meets its contract. The loop's invariant: the comparison of what is left says what the whole one does.

@@ -1,15 +1,13 @@
 use Prim.Native.Nat.{◌-◌, ◌≤◌}
-use mathlib.Core.Path.{◌≡◌, sym, ◌∙◌}
-use native.Mathlib.Omega.{arith}
+use mathlib.Core.Path.{◌≡◌}
 use lib.ListN.{take, drop}
-use borrow.Author.Rules.{rules}
 use Rattle.text.specs.Bytes.{same}
-use Rattle.text.proofs.NameLaws.{same_from, same_first, from_same, from_other, from_end}
+use Rattle.text.proofs.NameLaws.{same_from}
 use Rattle.text.proofs.compare.same_rest.Given as goal
 
 -- `same_rest` meets its contract. The loop's invariant: the comparison of what is left says what the whole one does.
 abbrev pub invariant-loop-i : goal.invariant-loop-i
-invariant-loop-i l =     (l.i ≤ l.len) × (same_from l.file l.text l.start l.len l.at l.i ≡ same (take l.len (drop l.start l.file)) (drop l.at l.text))
+invariant-loop-i l = (l.i ≤ l.len) × (same_from l.file l.text l.start l.len l.at l.i ≡ same (take l.len (drop l.start l.file)) (drop l.at l.text))
 
 abbrev pub decreases-loop-i : goal.decreases-loop-i
 decreases-loop-i l = l.len - l.i

@@ -1,20 +1,15 @@
-use Prim.Native.Nat.{ℕ, ◌+◌, ◌-◌, ◌*◌, ◌^◌, ◌≤◌, ◌<◌}
+use Prim.Native.Nat.{◌+◌, ◌-◌, ◌*◌, ◌^◌, ◌≤◌}
 use mathlib.Core.Path.{◌≡◌, refl, sym, ◌∙◌}
 use mathlib.Core.Bool.{true}
-use mathlib.Core.List.{List}
 use native.Mathlib.Omega.{arith}
-use lib.ListN.{length, get_or, drop}
-use borrow.Author.Rules.{rules}
-use borrow.Author.Tests.{not-true, not-false}
+use lib.ListN.{get_or, drop}
 use Rattle.text.specs.Bytes.{front_of}
-use Rattle.text.specs.Spelling.{decimal_from, decimal}
 use Rattle.text.specs.declared.Class.TheVariants.{Digit}
 use Rattle.text.specs.declared.Number.TheVariants.{TooBig}
-use Rattle.text.specs.Scan.{is_of, past, magnitude}
+use Rattle.text.specs.Scan.{is_of, magnitude}
 use Rattle.text.proofs.RunLaws.{past_more, past_stop, past_end}
 use Rattle.text.proofs.NumberLaws.{digits_more, digits_stop, digits_end, digits_good, digits_big}
 use Rattle.text.proofs.SeenLaws.{digit_bounds}
-use Rattle.text.proofs.numbers.digits_at.Invariants.{Reading}
 use Rattle.text.proofs.numbers.digits_at.Goals as goal
 
 pub loop-i-init : goal.loop-i-init
@@ -22,7 +17,7 @@ loop-i-init c = record { within = omega arith; fits = omega arith; left = refl; 
 
 pub returns-then-not-is_digit : goal.returns-then-not-is_digit
 unfolding is_of
-returns-then-not-is_digit c =     let l = c.loop-i in
+returns-then-not-is_digit c = let l = c.loop-i in
     let e = sym c.is_digit.ensures ∙ c.if-not-is_digit.true in (
       digits_good _ l.n l.invariant.fits (sym (digits_stop (is_of Digit) _ l.i l.n c.loop-i-test.true e) ∙ l.invariant.left),
       sym (past_stop (is_of Digit) _ _ c.loop-i-test.true e) ∙ l.invariant.stop,
@@ -64,5 +59,5 @@ loop-i-preserved c =
     record { within = omega arith; fits = omega arith; left = sym (digits_more (is_of Digit) _ _ l.n c.loop-i-test.true digit) ∙ l.invariant.left; stop = past_more (is_of Digit) _ _ c.loop-i-test.true digit ∙ l.invariant.stop }
 
 pub returns : goal.returns
-returns c =     let l = c.loop-i in
+returns c = let l = c.loop-i in
     (digits_good _ l.n l.invariant.fits (sym (digits_end (is_of Digit) _ l.i l.n c.loop-i-test.false) ∙ l.invariant.left), sym (past_end (is_of Digit) _ _ c.loop-i-test.false) ∙ l.invariant.stop)

@@ -1,19 +1,11 @@
-use Prim.Native.Nat.{ℕ, ◌+◌, ◌-◌, ◌*◌, ◌^◌, ◌≤◌, ◌<◌}
-use mathlib.Core.Path.{◌≡◌, refl, sym, ◌∙◌}
-use mathlib.Core.Bool.{true}
+use Prim.Native.Nat.{ℕ, ◌-◌, ◌^◌, ◌≤◌, ◌<◌}
+use mathlib.Core.Path.{◌≡◌}
 use mathlib.Core.List.{List}
-use native.Mathlib.Omega.{arith}
-use lib.ListN.{length, get_or, drop}
-use borrow.Author.Rules.{rules}
-use borrow.Author.Tests.{not-true, not-false}
+use lib.ListN.{length, drop}
 use Rattle.text.specs.Bytes.{front_of}
 use Rattle.text.specs.Spelling.{decimal_from, decimal}
 use Rattle.text.specs.declared.Class.TheVariants.{Digit}
-use Rattle.text.specs.declared.Number.TheVariants.{TooBig}
-use Rattle.text.specs.Scan.{is_of, past, magnitude}
-use Rattle.text.proofs.RunLaws.{past_more, past_stop, past_end}
-use Rattle.text.proofs.NumberLaws.{digits_more, digits_stop, digits_end, digits_good, digits_big}
-use Rattle.text.proofs.SeenLaws.{digit_bounds}
+use Rattle.text.specs.Scan.{is_of, past}
 use Rattle.text.proofs.numbers.digits_at.Given as goal
 
 -- `digits_at` meets its contract. The loop's invariant: n and the digits that are left make the number that all of them make, and stop where they do.

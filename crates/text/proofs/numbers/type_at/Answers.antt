@@ -1,4 +1,3 @@
-use borrow.Author.Rules.{rules}
 use Rattle.text.proofs.TypeLaws.{none_read, type_short, type_colon, type_letter, type_read}
 use Rattle.text.proofs.numbers.type_at.Goals as goal
 

@@ -1,5 +1,4 @@
 use mathlib.Core.Path.{sym, ◌∙◌}
-use borrow.Author.Rules.{rules}
 use Rattle.text.proofs.numbers.width.Goals as goal
 
 pub returns-then-is_width : goal.returns-then-is_width

@@ -3,8 +3,6 @@ use mathlib.Core.Path.{◌≡◌, sym, ◌∙◌}
 use mathlib.Core.Bool.{true, false}
 use native.Mathlib.Omega.{arith}
 use lib.ListN.{length, get_or, drop}
-use borrow.Author.Rules.{rules}
-use borrow.Author.Tests.{not-true, not-false}
 use Rattle.text.specs.Bytes.{is_digit}
 use Rattle.text.specs.Scan.{ends_token}
 use Rattle.text.proofs.TypeLaws.{Led, Longer, none_read, width_none, width_other, led, width_one, longer, width_second, width_not, width_two}

@@ -11,5 +11,5 @@ pub returns-then-most-digits : goal.returns-then-most-digits
 returns-then-most-digits c = rw (lt-leb _ _ c.if-most-digits.true, and_false)
 
 pub returns : goal.returns
-returns c =     let a = c.args in
+returns c = let a = c.args in
     rw (le-leb 1 a.digits (omega arith), le-leb a.digits a.most (omega arith))

@@ -1,5 +1,4 @@
 use mathlib.Core.Path.{sym}
-use borrow.Author.Rules.{rules}
 use Rattle.text.specs.Scan.{is_of}
 use Rattle.text.proofs.RunLaws.{every_past}
 use Rattle.text.proofs.scan.all.Goals as goal

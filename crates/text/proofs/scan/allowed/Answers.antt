@@ -1,8 +1,6 @@
-use Prim.Native.Nat.{◌+◌, ◌-◌}
+use Prim.Native.Nat.{◌+◌}
 use mathlib.Core.Path.{refl}
 use native.Mathlib.Omega.{arith}
-use lib.ListN.{length}
-use borrow.Author.Rules.{rules}
 use Rattle.text.specs.declared.Class.TheVariants.{Printing}
 use Rattle.text.specs.Scan.{is_of}
 use Rattle.text.proofs.RunLaws.{past_ge}
@@ -24,7 +22,7 @@ loop-i-preserved c =
     onward
 
 pub returns-else-text-i-eq9 : goal.returns-else-text-i-eq9
-returns-else-text-i-eq9 c =     let i = c.loop-i.invariant in
+returns-else-text-i-eq9 c = let i = c.loop-i.invariant in
     scan_stops i.scanned c.loop-i-test.true refl (other_not_allowed _ (i.stops c.loop-i-test.true) c.if-text-i-eq9.false)
 
 pub returns : goal.returns

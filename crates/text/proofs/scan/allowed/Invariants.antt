@@ -1,13 +1,6 @@
-use Prim.Native.Nat.{◌+◌, ◌-◌}
-use mathlib.Core.Path.{refl}
-use native.Mathlib.Omega.{arith}
+use Prim.Native.Nat.{◌-◌}
 use lib.ListN.{length}
-use borrow.Author.Rules.{rules}
-use Rattle.text.specs.declared.Class.TheVariants.{Printing}
-use Rattle.text.specs.Scan.{is_of}
-use Rattle.text.proofs.RunLaws.{past_ge}
-use Rattle.text.proofs.ScanLaws.{scan_starts, scan_steps, scan_stops, scan_ends}
-use Rattle.text.proofs.StopLaws.{LeaptTo, leaps, tab_allowed, other_not_allowed}
+use Rattle.text.proofs.StopLaws.{LeaptTo}
 use Rattle.text.proofs.scan.allowed.Given as goal
 
 -- `allowed` meets its contract: a scan over allowed bytes, in leaps over printing ones.

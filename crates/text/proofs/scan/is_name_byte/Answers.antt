@@ -1,4 +1,3 @@
-use borrow.Author.Rules.{rules}
 use Rattle.text.specs.Bytes.{is_name_byte}
 use Rattle.text.proofs.scan.is_name_byte.Goals as goal
 

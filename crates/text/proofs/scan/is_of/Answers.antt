@@ -1,4 +1,3 @@
-use borrow.Author.Rules.{rules}
 use Rattle.text.specs.Scan.{is_of}
 use Rattle.text.proofs.scan.is_of.Goals as goal
 

@@ -1,7 +1,6 @@
 use mathlib.Core.Path.{sym}
 use native.Mathlib.Omega.{arith}
 use Rattle.text.proofs.LineLaws.{leads_none, leads_alone, leads_more}
-use borrow.Author.Rules.{rules}
 use Rattle.text.proofs.scan.leads.Goals as goal
 
 pub returns-then-at-line : goal.returns-then-at-line

@@ -1,5 +1,4 @@
 use native.Mathlib.Omega.{arith}
-use borrow.Author.Rules.{rules}
 use Rattle.text.specs.declared.Class.TheVariants.{Space}
 use Rattle.text.specs.Scan.{is_of}
 use Rattle.text.proofs.RunLaws.{scan_bounds}
@@ -13,6 +12,6 @@ pub scan-stop-requires : goal.scan-stop-requires
 scan-stop-requires c = (scan_bounds (is_of Space) c.args.line.now c.args.at _ c.requires c.scan-start.ensures).1
 
 pub returns : goal.returns
-returns c =     let e = c.scan-start.ensures in
+returns c = let e = c.scan-start.ensures in
     let b = scan_bounds (is_of Space) c.args.line.now c.args.at _ c.requires e in
     (tokens_turn c.args.line.now c.args.at _ e (omega arith) _ c.scan-stop.ensures, token_within c.args.line.now c.args.at _ e (omega arith) _ c.scan-stop.ensures)

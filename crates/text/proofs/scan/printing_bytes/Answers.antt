@@ -1,10 +1,10 @@
-use Prim.Native.Nat.{◌+◌, ◌-◌, ◌≤◌}
+use Prim.Native.Nat.{◌+◌, ◌≤◌}
 use mathlib.Core.Path.{◌≡◌, sym, ◌∙◌}
 use native.Mathlib.Omega.{arith}
 use lib.Count.{count_trailing_zeros}
 use lib.ListN.{length}
 use Rattle.text.specs.declared.Class.TheVariants.{Printing}
-use Rattle.text.specs.Scan.{is_of, past, Scanned}
+use Rattle.text.specs.Scan.{is_of, past}
 use Rattle.text.proofs.RunLaws.{past_le}
 use Rattle.text.proofs.ScanLaws.{scan_starts, scan_leaps}
 use Rattle.text.proofs.StopLaws.{stops_clear, stops_first}
@@ -37,7 +37,7 @@ returns-then-stops-ne0 c =
     stopped ∙ c.loop-i.invariant.ends
 
 pub loop-i-preserved : goal.loop-i-preserved
-loop-i-preserved c =     let i = c.loop-i.i in
+loop-i-preserved c = let i = c.loop-i.i in
     scan_leaps c.loop-i.invariant (record { within = omega arith; onward = omega arith; ends = stops_clear c.args.text.now 16 i (omega arith) (sym c.stops16-stops.ensures ∙ c.if-stops-ne0.false) })
 
 pub returns : goal.returns

@@ -1,9 +1,6 @@
 use Prim.Native.Nat.{◌-◌}
-use native.Mathlib.Omega.{arith}
 use lib.ListN.{length}
-use borrow.Author.Rules.{rules}
 use Rattle.text.specs.Scan.{is_of, Scanned}
-use Rattle.text.proofs.ScanLaws.{scan_starts, scan_steps, scan_stops, scan_ends}
 use Rattle.text.proofs.scan.scan.Given as goal
 
 -- `scan` meets its contract: a scan for a byte that is not of the class.

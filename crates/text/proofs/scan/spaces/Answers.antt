@@ -1,9 +1,4 @@
-use Prim.Native.Nat.{◌-◌}
-use native.Mathlib.Omega.{arith}
-use lib.ListN.{length}
-use borrow.Author.Rules.{rules}
-use Rattle.text.specs.declared.Class.TheVariants.{Space}
-use Rattle.text.specs.Scan.{is_of, Scanned}
+use Rattle.text.specs.Scan.{is_of}
 use Rattle.text.proofs.ScanLaws.{scan_starts, scan_steps, scan_stops, scan_ends}
 use Rattle.text.proofs.scan.spaces.Goals as goal
 
