@@ -1,5 +1,5 @@
 -- Tokens that set every variable once, to the values of a row. Assumes nothing.
-use Prim.Native.Nat.{ℕ, zero, suc, ◌<◌}
+use Prim.Native.Nat.{ℕ, ◌<◌}
 use mathlib.Core.Path.{◌≡◌, refl, sym, ap, ◌∙◌}
 use mathlib.Core.List.{List, [], ◌∷◌, map, Option-to_list}
 use mathlib.Core.Option.{Option, none, some, map-eq-some_iff}

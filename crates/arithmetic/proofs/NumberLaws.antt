@@ -1,6 +1,6 @@
 -- The operators by number. Assumes nothing.
 use mathlib.Core.Path.{◌≡◌, refl, sym}
-use Prim.Native.Nat.{ℕ, ◌≤◌}
+use Prim.Native.Nat.{ℕ, zero, suc, ◌≤◌}
 use native.Mathlib.Decide.{ℕ_discrete}
 use native.Mathlib.Omega.{arith}
 use lib.ListN.{length, get_or-eq_default}
@@ -14,12 +14,29 @@ use Rattle.arithmetic.specs.declared.Shift.TheVariants.{Shl, Ashr, Lshr}
 use Rattle.arithmetic.specs.declared.Extension.TheVariants.{Sext, Zext}
 use Rattle.arithmetic.specs.Numbering.{listed, operator_numbered, bitwise_number, comparison_number, arithmetic_number, division_number, shift_number, extension_number, operator_number}
 
+-- x is none of the numbers below k, as a `match` leaves it to its last arm; so it is at least k
+abbrev pub Missed : ℕ → ℕ → Type 0
+Missed zero x = Unit {0}
+Missed (suc k) x = Missed k x × (x ≡ k → ⊥)
+
+missed : (k x : ℕ) → Missed k x → k ≤ x
+missed zero x m = omega arith
+missed (suc k) x m =
+    let h = missed k x m.0 in
+    let n = m.1 in
+    omega arith
+
+-- what is at least k is none of them
+pub at_least_missed : (k x : ℕ) → k ≤ x → Missed k x
+at_least_missed zero x h = tt
+at_least_missed (suc k) x h = (at_least_missed k x (omega arith), λ e. omega arith)
+
 -- from the last number on, the last operator
-pub last : (n : ℕ) → 30 ≤ n → Extr ≡ operator_numbered n
+pub last : (n : ℕ) → Missed 30 n → Extr ≡ operator_numbered n
 unfolding operator_numbered listed
 last n m = elim (ℕ_discrete n 30) [
   | yes e ↦ rw e
-  | no d ↦ let l : length listed ≤ n = omega arith in sym (get_or-eq_default listed Extr l)
+  | no d ↦ let h = missed 30 n m in let l : length listed ≤ n = omega arith in sym (get_or-eq_default listed Extr l)
 ]
 
 pub give_back : (op : Operator) → operator_numbered (operator_number op) ≡ op

@@ -28,7 +28,6 @@ use Rattle.text.proofs.RunLaws.{run_part, strict_split, strict_rest}
 use Rattle.text.proofs.SeenLaws.{name_bytes}
 use Rattle.text.proofs.PartLaws.{first_fails, part_front, part_behind, part_bare, part_broken}
 use Rattle.text.proofs.FirstByteLaws.{name_solid, name_whole, not_bytes, no_name_part}
-use Rattle.declaration.specs.declared.Declaration.{Declaration}
 use Rattle.declaration.specs.declared.Declaration.TheVariants.{Fresh, Faulty}
 use Rattle.constraint.specs.File.{Variable, variable_named}
 use Rattle.spelling.specs.Operators.{is_reserved}

@@ -2,7 +2,7 @@
 use Prim.Native.Nat.{ℕ, ◌-◌, ◌%◌, ◌^◌, ◌≤◌}
 use Prim.Native.Char.{code}
 use mathlib.Core.Path.{◌≡◌, refl, ap, sym, ◌∙◌}
-use mathlib.Core.Bool.{Bool, true, false, cond, not, ◌&&◌}
+use mathlib.Core.Bool.{Bool, true, false, cond, ◌&&◌}
 use mathlib.Core.List.{List, [], ◌∷◌, ◌++◌, append_assoc}
 use native.Mathlib.Omega.{arith}
 use lib.Dec.{eqb, leb, ltb}
@@ -10,7 +10,7 @@ use lib.ListN.{length, take, drop}
 use borrow.Author.Tests.{eqb-true}
 use Rattle.edition.specs.Edition.{is_width}
 use Rattle.refusal.specs.Lists.{every}
-use Rattle.refusal.proofs.BoolLaws.{and_one, and_false, fails}
+use Rattle.refusal.proofs.BoolLaws.{and_one, and_false}
 use Rattle.refusal.specs.Numbers.{misspelt, not_a_width, number_too_large}
 use Rattle.refusal.specs.Result.{accepted, refused, ensure, ◌>>◌}
 use Rattle.text.specs.Bytes.{front_of, is_digit, is_letter}

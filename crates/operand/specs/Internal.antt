@@ -1,7 +1,7 @@
 -- What the results of this crate's functions mean, in terms of the definitions.
 use Rattle.std.specs.Prelude.{ℕ, ◌%◌, ◌^◌, ◌≤◌, true, List, length, take, drop}
 use Rattle.refusal.specs.Numbers.{misspelt, not_a_width, number_too_large}
-use Rattle.refusal.specs.Result.{Result, accepted, refused, ◌>>=◌, ◌>>◌}
+use Rattle.refusal.specs.Result.{Result, accepted, refused, ◌>>=◌}
 use Rattle.text.specs.declared.Number.{Number}
 use Rattle.text.specs.declared.Number.TheVariants.{Value, TooBig, Misspelt}
 use Rattle.text.specs.declared.TypeRead.{TypeRead}

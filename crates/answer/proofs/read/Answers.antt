@@ -1,13 +1,11 @@
-use Prim.Native.Nat.{ℕ, ◌≤◌}
+use Prim.Native.Nat.{◌≤◌}
 use mathlib.Core.Path.{◌≡◌, refl, ap, ◌∙◌}
-use mathlib.Core.List.{List}
 use native.Mathlib.Omega.{arith}
 use lib.ListN.{length, take}
 use borrow.Author.Rules.{rules}
 use Rattle.edition.specs.Edition.{max_variables}
 use Rattle.refusal.specs.Result.{accepted}
 use Rattle.constraint.specs.Read.{read_file}
-use Rattle.constraint.specs.File.{File}
 use Rattle.store.specs.Names.{Searchable}
 use Rattle.store.specs.Tables.{store_of}
 use Rattle.store.specs.Progress.{stored_file}
@@ -41,7 +39,7 @@ store_row-requires c =
     (few, c.read_answer.ensures.1, c.if-values-n.false)
 
 pub returns-in-Stop : goal.returns-in-Stop
-returns-in-Stop c =     let a = c.args in
+returns-in-Stop c = let a = c.args in
     ap (stored a.values.now) (reading_constraint a.constraint.now a.answer.now a.values.now c.in-Stop.r (rw c.in-Stop.is at c.read.ensures.0))
 
 pub returns-in-Fault : goal.returns-in-Fault

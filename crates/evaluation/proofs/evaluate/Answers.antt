@@ -1,4 +1,4 @@
-use Rattle.std.proofs.Common.{ap, arith, rules, eq-eqb, ne_eqb}
+use Rattle.std.proofs.Common.{ap, arith, eq-eqb, ne_eqb}
 use Rattle.evaluation.specs.declared.Evaluated.TheVariants.{Value}
 use Rattle.arithmetic.specs.Meaning.{value_of}
 use Rattle.arithmetic.proofs.PlaceLaws.{inverted_lt}
@@ -11,11 +11,11 @@ pub invert-requires : goal.invert-requires
 invert-requires c = rw c.in-Not.is at c.requires
 
 pub invert-requires-in-Implies : goal.invert-requires-in-Implies
-invert-requires-in-Implies c =     let g = rw c.in-Implies.is at c.requires in
+invert-requires-in-Implies c = let g = rw c.in-Implies.is at c.requires in
     record { least = g.least; most = g.most; bound = g.bound }
 
 pub combine-requires-in-Implies : goal.combine-requires-in-Implies
-combine-requires-in-Implies c =     let g = rw c.in-Implies.is at c.requires in
+combine-requires-in-Implies c = let g = rw c.in-Implies.is at c.requires in
     record { least = g.least; most = g.most; bound = rw c.invert-in-Implies.ensures (inverted_lt c.args.k c.args.a.value g.bound); bound₂ = g.bound₂ }
 
 pub compare-requires : goal.compare-requires
@@ -37,15 +37,15 @@ pub extend-requires : goal.extend-requires
 extend-requires c = rw c.in-Extend.is at c.requires
 
 pub join-requires : goal.join-requires
-join-requires c =     let g = rw c.in-Conc.is at c.requires in
+join-requires c = let g = rw c.in-Conc.is at c.requires in
     rw g.both at g
 
 pub overflow_shr-x : goal.overflow_shr-x
-overflow_shr-x c =     let g = rw c.in-Extr.is at c.requires in
+overflow_shr-x c = let g = rw c.in-Extr.is at c.requires in
     omega arith
 
 pub low-requires-in-Extr : goal.low-requires-in-Extr
-low-requires-in-Extr c =     let g = rw c.in-Extr.is at c.requires in
+low-requires-in-Extr c = let g = rw c.in-Extr.is at c.requires in
     record { least = g.least; most = omega arith }
 
 pub returns-in-Combine : goal.returns-in-Combine
@@ -98,5 +98,5 @@ returns-in-Conc c = rw c.in-Conc.is (ap Value c.join.ensures)
 
 pub returns-in-Extr : goal.returns-in-Extr
 unfolding value_of
-returns-in-Extr c =     let g = rw c.in-Extr.is at c.requires in
+returns-in-Extr c = let g = rw c.in-Extr.is at c.requires in
     rw (c.in-Extr.is, ← g.span) (ap Value c.low-in-Extr.ensures)

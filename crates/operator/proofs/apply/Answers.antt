@@ -1,15 +1,13 @@
 use mathlib.Core.Path.{◌≡◌, sym, ap, ◌∙◌}
 use mathlib.Core.Bool.{true}
 use Rattle.arithmetic.specs.Rules.{widths_hold, typed, operands_fit}
-use Rattle.refusal.proofs.BoolLaws.{passed, failed}
 use Rattle.arithmetic.proofs.RuleLaws.{evaluable}
 use Rattle.operator.specs.Apply.{apply_outcome}
 use Rattle.operator.proofs.ApplyLaws.{passed_on, no_width, rule_broken, too_large, taken}
-use borrow.Author.Rules.{rules}
 use Rattle.operator.proofs.apply.Goals as goal
 
 pub returns-then-not-widths_hold : goal.returns-then-not-widths_hold
-returns-then-not-widths_hold c =     let s = c.args in
+returns-then-not-widths_hold c = let s = c.args in
     c.refused.ensures ∙ no_width s.op s.k s.a s.b s.c ((sym c.widths_hold.ensures ∙ c.if-not-widths_hold.true))
 
 pub returns-then-not-typed : goal.returns-then-not-typed

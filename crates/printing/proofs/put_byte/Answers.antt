@@ -1,4 +1,3 @@
-use borrow.Author.Rules.{rules}
 use Rattle.printing.proofs.PlaceLaws.{put_one}
 use Rattle.printing.proofs.put_byte.Goals as goal
 

@@ -1,8 +1,4 @@
-use Prim.Native.Nat.{◌-◌}
-use native.Mathlib.Omega.{arith}
-use lib.ListN.{length}
-use borrow.Author.Rules.{rules}
-use Rattle.printing.proofs.PlaceLaws.{Copying, copying_starts, copying_more, copying_done}
+use Rattle.printing.proofs.PlaceLaws.{copying_starts, copying_more, copying_done}
 use Rattle.printing.proofs.put_bytes.Goals as goal
 
 pub loop-i-init : goal.loop-i-init

@@ -1,8 +1,6 @@
 use Prim.Native.Nat.{◌-◌}
-use native.Mathlib.Omega.{arith}
 use lib.ListN.{length}
-use borrow.Author.Rules.{rules}
-use Rattle.printing.proofs.PlaceLaws.{Copying, copying_starts, copying_more, copying_done}
+use Rattle.printing.proofs.PlaceLaws.{Copying}
 use Rattle.printing.proofs.put_bytes.Given as goal
 
 -- `put_bytes` meets its contract. The loop's invariant: the bytes passed are put.

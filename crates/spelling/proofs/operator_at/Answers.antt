@@ -1,4 +1,3 @@
-use borrow.Author.Rules.{rules}
 use Rattle.spelling.proofs.SpellingLaws.{operator_is}
 use Rattle.spelling.proofs.operator_at.Goals as goal
 

@@ -1,6 +1,5 @@
 use mathlib.Core.Path.{sym, ap}
 use lib.ListN.{length}
-use borrow.Author.Rules.{rules}
 use Rattle.edition.specs.Edition.{edition10}
 use Rattle.spelling.specs.Operators.{spelling_of}
 use Rattle.spelling.proofs.SymbolLaws.{symbol_within, symbol_front}

@@ -16,7 +16,7 @@ unfolding lines_in tabulate
 loop-k-init c = (search rules, λ xs f. tt)
 
 pub judge_line-judged-requires : goal.judge_line-judged-requires
-judge_line-judged-requires c =     (c.requires.1, c.requires.2, omega arith, c.requires.3 _ c.loop-k-test.true)
+judge_line-judged-requires c = (c.requires.1, c.requires.2, omega arith, c.requires.3 _ c.loop-k-test.true)
 
 pub loop-k-preserved : goal.loop-k-preserved
 loop-k-preserved c =
@@ -29,5 +29,5 @@ returns-else-judged-eq-HOLDS c xs f =
     one_fails xs _ _ _ _ _ c.loop-k-test.true (λ e. c.if-judged-eq-HOLDS.false (sym (verdict-of xs f) ∙ e))
 
 pub returns : goal.returns
-returns c xs f =     let e : c.loop-k.k ≡ c.args.m = omega arith in
+returns c xs f = let e : c.loop-k.k ≡ c.args.m = omega arith in
     all_hold xs _ _ _ _ (rw e at (c.loop-k.invariant.1 xs f))

@@ -63,7 +63,7 @@ write_row-requires c =
     (read_short (c.args.constraint.now) (stored_file (c.args.constraint.now) (store_of c.read.new.variables c.read.new.heads c.read.new.bodies) c.in-Next.p) (sym file_read), in_tables.variables, length-take-le (c.in-Next.p.variables) (c.args.values.now) room)
 
 pub returns-in-Stop : goal.returns-in-Stop
-returns-in-Stop c =     let a = c.args in
+returns-in-Stop c = let a = c.args in
     ap (written a.output.now) (writing_constraint a.constraint.now a.values.now a.output.now c.in-Stop.r (rw c.in-Stop.is at c.read.ensures.0))
 
 pub returns-in-At : goal.returns-in-At

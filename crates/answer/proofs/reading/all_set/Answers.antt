@@ -1,12 +1,5 @@
-use Prim.Native.Nat.{ℕ, ◌-◌, ◌≤◌}
 use mathlib.Core.Path.{◌≡◌, sym}
-use mathlib.Core.Bool.{true}
-use mathlib.Core.List.{List}
 use native.Mathlib.Omega.{arith}
-use borrow.Author.Rules.{rules}
-use Rattle.refusal.specs.Lists.{is_there}
-use Rattle.answer.specs.Read.{all_set}
-use Rattle.answer.specs.Internal.{entries_in}
 use Rattle.answer.proofs.EntryLaws.{all_start, all_next, all_missing}
 use Rattle.answer.proofs.reading.all_set.Goals as goal
 

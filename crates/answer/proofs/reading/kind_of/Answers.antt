@@ -1,5 +1,4 @@
 use mathlib.Core.Path.{sym, ◌∙◌}
-use borrow.Author.Rules.{rules}
 use Rattle.answer.specs.Read.{answer_kind}
 use Rattle.answer.proofs.reading.kind_of.Goals as goal
 

@@ -1,14 +1,11 @@
 use mathlib.Core.Path.{◌≡◌, sym, ap, ◌∙◌}
-use mathlib.Core.List.{List}
 use native.Mathlib.Omega.{arith}
 use lib.ListN.{take}
 use borrow.Author.Tests.{not-true, not-false}
-use borrow.Author.Rules.{rules}
 use Rattle.refusal.specs.declared.Subject.TheVariants.{Answer}
 use Rattle.refusal.proofs.ListLaws.{not_there}
 use Rattle.text.specs.Lines.{text_lines}
 use Rattle.text.specs.Reading.{read_lines}
-use Rattle.constraint.specs.File.{Variable}
 use Rattle.store.specs.Tables.{variables_in}
 use Rattle.answer.specs.Read.{settings_of, no_settings, read_answer_line, all_set}
 use Rattle.answer.specs.Internal.{entries_in, answer_step}

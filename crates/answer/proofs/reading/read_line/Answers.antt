@@ -1,11 +1,8 @@
 use mathlib.Core.Path.{◌∙◌}
-use mathlib.Core.List.{List}
-use borrow.Author.Rules.{rules}
-use Rattle.constraint.specs.File.{Variable}
 use Rattle.store.specs.Tables.{variables_in}
 use Rattle.text.specs.Scan.{line_at}
 use Rattle.answer.specs.declared.AnswerLine.TheVariants.{OfComment, OfSolution, OfValues, OfNoKind}
-use Rattle.answer.specs.Read.{Settings, settings_of, read_answer_as}
+use Rattle.answer.specs.Read.{settings_of, read_answer_as}
 use Rattle.answer.specs.Internal.{entries_in}
 use Rattle.answer.proofs.ReaderLaws.{of_kind}
 use Rattle.answer.proofs.reading.read_line.Goals as goal

@@ -1,25 +1,21 @@
-use Prim.Native.Nat.{◌-◌}
 use mathlib.Core.Path.{◌≡◌, sym, ◌∙◌}
 use mathlib.Core.Bool.{false}
-use mathlib.Core.List.{List}
 use native.Mathlib.Omega.{arith}
 use lib.ListN.{length, take}
 use lib.Seq.{length-take-le}
-use borrow.Author.Rules.{rules}
 use Rattle.refusal.specs.declared.Subject.TheVariants.{Answer}
 use Rattle.text.proofs.FoundLineLaws.{Ended, line_ends}
-use Rattle.text.proofs.ReadingLaws.{Reading, reading_starts, reading_ends, reading_stops, reading_goes, reading_faults}
-use Rattle.constraint.specs.File.{Variable}
+use Rattle.text.proofs.ReadingLaws.{reading_starts, reading_ends, reading_stops, reading_goes, reading_faults}
 use Rattle.store.specs.Tables.{variables_in}
-use Rattle.answer.specs.Read.{Settings, settings_of, read_answer_line}
-use Rattle.answer.specs.Internal.{entries_in, SettingsSized}
+use Rattle.answer.specs.Read.{settings_of, read_answer_line}
+use Rattle.answer.specs.Internal.{entries_in}
 use Rattle.answer.proofs.reading.read_lines.Goals as goal
 
 pub loop-i-init : goal.loop-i-init
 loop-i-init c = (reading_starts Answer (read_answer_line (variables_in c.args.file.now c.args.variables.now c.args.n)) (settings_of false (entries_in c.args.flags.now c.args.values.now c.args.n)) c.args.answer.now, c.requires.2)
 
 pub returns-in-Faulty : goal.returns-in-Faulty
-returns-in-Faulty c =     (rw c.refusal.ensures (reading_faults Answer (read_answer_line (variables_in c.args.file.now c.args.variables.now c.args.n)) (settings_of false (entries_in c.args.flags.now c.args.values.now c.args.n)) c.args.answer.now c.loop-i.invariant.0 c.loop-i-test.true c.in-Faulty.bad (sym c.in-Faulty.is ∙ c.find_line.ensures)), c.loop-i.invariant.1)
+returns-in-Faulty c = (rw c.refusal.ensures (reading_faults Answer (read_answer_line (variables_in c.args.file.now c.args.variables.now c.args.n)) (settings_of false (entries_in c.args.flags.now c.args.values.now c.args.n)) c.args.answer.now c.loop-i.invariant.0 c.loop-i-test.true c.in-Faulty.bad (sym c.in-Faulty.is ∙ c.find_line.ensures)), c.loop-i.invariant.1)
 
 pub slice_bounds-cut-end : goal.slice_bounds-cut-end
 slice_bounds-cut-end c =

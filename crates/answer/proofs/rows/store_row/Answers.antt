@@ -1,9 +1,6 @@
-use Prim.Native.Nat.{◌-◌, ◌≤◌}
 use mathlib.Core.Path.{◌≡◌, refl, ap, ◌∙◌}
-use mathlib.Core.List.{◌++◌}
 use native.Mathlib.Omega.{arith}
-use lib.ListN.{length, get_or, take, drop, set, length-set}
-use borrow.Author.Rules.{rules}
+use lib.ListN.{get_or, set, length-set}
 use Rattle.store.proofs.TableLaws.{row_more}
 use Rattle.answer.proofs.rows.store_row.Goals as goal
 
@@ -11,7 +8,7 @@ pub loop-i-init : goal.loop-i-init
 loop-i-init c = (omega arith, refl, refl)
 
 pub loop-i-preserved : goal.loop-i-preserved
-loop-i-preserved c =     let a = c.args in
+loop-i-preserved c = let a = c.args in
     let v = get_or a.row.now c.loop-i.i 0 in
     (omega arith, length-set c.loop-i.values c.loop-i.i v ∙ c.loop-i.invariant.1, ap (λ s. set s c.loop-i.i v) c.loop-i.invariant.2 ∙ row_more a.row.now a.values.now c.loop-i.i (omega arith) (omega arith))
 

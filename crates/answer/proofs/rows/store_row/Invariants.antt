@@ -1,10 +1,7 @@
 use Prim.Native.Nat.{◌-◌, ◌≤◌}
-use mathlib.Core.Path.{◌≡◌, refl, ap, ◌∙◌}
+use mathlib.Core.Path.{◌≡◌}
 use mathlib.Core.List.{◌++◌}
-use native.Mathlib.Omega.{arith}
-use lib.ListN.{length, get_or, take, drop, set, length-set}
-use borrow.Author.Rules.{rules}
-use Rattle.store.proofs.TableLaws.{row_more}
+use lib.ListN.{length, take, drop}
 use Rattle.answer.proofs.rows.store_row.Given as goal
 
 abbrev pub invariant-loop-i : goal.invariant-loop-i

@@ -1,10 +1,9 @@
-use Prim.Native.Nat.{ℕ, ◌-◌, ◌≤◌, ◌<◌}
+use Prim.Native.Nat.{◌≤◌, ◌<◌}
 use mathlib.Core.Path.{◌≡◌, refl}
 use mathlib.Core.Bool.{true}
-use mathlib.Core.List.{List, ◌∷◌}
+use mathlib.Core.List.{◌∷◌}
 use native.Mathlib.Omega.{arith}
 use lib.ListN.{length, drop}
-use borrow.Author.Rules.{rules}
 use Rattle.refusal.specs.Result.{accepted}
 use Rattle.text.specs.declared.Class.TheVariants.{Space, Solid}
 use Rattle.text.specs.Lines.{tokens_from}
@@ -13,14 +12,14 @@ use Rattle.text.proofs.RunLaws.{scan_bounds}
 use Rattle.text.proofs.TokenLaws.{tokens_end, tokens_done, tokens_turn, token_within}
 use Rattle.store.specs.Tables.{variables_in}
 use Rattle.answer.specs.Read.{setting_of}
-use Rattle.answer.proofs.ValueLaws.{Storing, storing_done, storing_fault, storing_twice, storing_more}
+use Rattle.answer.proofs.ValueLaws.{storing_done, storing_fault, storing_twice, storing_more}
 use Rattle.answer.proofs.settings.set_all.Goals as goal
 
 pub loop-i-init : goal.loop-i-init
 loop-i-init c = let p = c.requires in record { within = p.0; whole = p.3; rest = refl }
 
 pub returns-then-start-line : goal.returns-then-start-line
-returns-then-start-line c =     (storing_done c.loop-i.invariant (tokens_done c.args.line.now c.loop-i.i _ c.spaces-start.ensures c.if-start-line.true), c.loop-i.invariant.whole)
+returns-then-start-line c = (storing_done c.loop-i.invariant (tokens_done c.args.line.now c.loop-i.i _ c.spaces-start.ensures c.if-start-line.true), c.loop-i.invariant.whole)
 
 pub setting-requires : goal.setting-requires
 setting-requires c =

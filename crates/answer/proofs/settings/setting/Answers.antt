@@ -1,23 +1,19 @@
 use Prim.Native.Nat.{◌≤◌, ◌<◌}
 use mathlib.Core.Path.{◌≡◌, sym, ap, ◌∙◌}
 use mathlib.Core.Bool.{true}
-use mathlib.Core.List.{List}
 use native.Mathlib.Omega.{arith}
 use lib.ListN.{length, get_or, take, drop}
 use lib.Seq.{length-take-le}
-use Rattle.refusal.proofs.BoolLaws.{passed, failed}
 use Rattle.text.specs.Bytes.{is_letter}
 use Rattle.text.specs.declared.Class.TheVariants.{Solid}
 use Rattle.text.specs.declared.Number.{Number}
 use Rattle.text.specs.declared.Number.TheVariants.{Value, TooBig, Misspelt}
 use Rattle.text.specs.Scan.{is_of, past, token_from}
 use Rattle.text.proofs.FirstByteLaws.{name_bounds, name_whole}
-use Rattle.constraint.specs.File.{Variable}
 use Rattle.store.specs.Tables.{variables_in}
 use Rattle.answer.specs.Read.{setting_of}
 use Rattle.answer.specs.Internal.{setting_result, setting_named}
 use Rattle.answer.proofs.SettingLaws.{setting_by, setting_not, setting_stop, setting_read}
-use borrow.Author.Rules.{rules}
 use Rattle.answer.proofs.settings.setting.Goals as goal
 
 pub returns-then-not-is_letter : goal.returns-then-not-is_letter

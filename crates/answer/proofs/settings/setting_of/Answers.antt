@@ -1,10 +1,8 @@
 use Prim.Native.Nat.{◌^◌}
 use mathlib.Core.Path.{◌≡◌, refl, sym, ap, ◌∙◌}
-use mathlib.Core.List.{List}
 use lib.Dec.{ltb}
-use borrow.Author.Rules.{rules}
 use Rattle.arithmetic.proofs.RuleLaws.{fits_test}
-use Rattle.constraint.specs.File.{Variable, width_at}
+use Rattle.constraint.specs.File.{width_at}
 use Rattle.store.specs.Tables.{place, variables_in}
 use Rattle.store.proofs.LookupLaws.{variables_length}
 use Rattle.answer.proofs.SettingLaws.{found_below, named_long, named_unknown, named_set, named_unfit}

@@ -2,7 +2,6 @@ use Prim.Native.Nat.{◌+◌, ◌≤◌, ◌<◌}
 use mathlib.Core.Path.{sym, ◌∙◌}
 use native.Mathlib.Omega.{arith}
 use lib.ListN.{length}
-use borrow.Author.Rules.{rules}
 use Rattle.answer.proofs.SettingValueLaws.{none_read, value_none, value_other, digits_bounds, value_read, value_longer}
 use Rattle.answer.proofs.settings.value_at.Goals as goal
 

@@ -1,7 +1,4 @@
-use mathlib.Core.List.{List}
 use borrow.Author.Tests.{not-true, not-false}
-use borrow.Author.Rules.{rules}
-use Rattle.constraint.specs.File.{Variable}
 use Rattle.store.specs.Tables.{variables_in}
 use Rattle.answer.specs.Internal.{entries_in}
 use Rattle.answer.proofs.ValueLaws.{values_misplaced, values_refused, values_read}

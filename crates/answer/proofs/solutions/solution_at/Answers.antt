@@ -1,5 +1,4 @@
 use mathlib.Core.Path.{sym, ◌∙◌}
-use borrow.Author.Rules.{rules}
 use Rattle.answer.specs.Read.{solution_of}
 use Rattle.answer.proofs.solutions.solution_at.Goals as goal
 

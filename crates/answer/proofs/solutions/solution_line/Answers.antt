@@ -6,7 +6,6 @@ use native.Mathlib.Nat.{le_of_lt}
 use native.Mathlib.Omega.{arith}
 use lib.ListN.{length, take, drop}
 use lib.Seq.{length-take-le}
-use borrow.Author.Rules.{rules}
 use Rattle.text.specs.Lines.{tokens_from}
 use Rattle.text.specs.Scan.{token_at}
 use Rattle.answer.proofs.SolutionLaws.{solution_misplaced, solution_missing, solution_satisfiable, solution_otherwise, solution_none}

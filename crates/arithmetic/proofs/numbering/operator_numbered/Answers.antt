@@ -1,7 +1,7 @@
 use Rattle.std.specs.Prelude.{◌≤◌}
 use native.Mathlib.Omega.{arith}
 use Rattle.arithmetic.specs.Numbering.{listed, operator_numbered}
-use Rattle.arithmetic.proofs.NumberLaws.{last}
+use Rattle.arithmetic.proofs.NumberLaws.{last, at_least_missed}
 use Rattle.arithmetic.proofs.numbering.operator_numbered.Goals as goal
 
 pub returns-in-0 : goal.returns-in-0
@@ -126,4 +126,4 @@ returns-in-29 c = rw c.in-29.is
 
 pub returns-in_default : goal.returns-in_default
 unfolding operator_numbered listed
-returns-in_default c = let l : 30 ≤ c.args.n = omega arith in last c.args.n l
+returns-in_default c = let l : 30 ≤ c.args.n = omega arith in last c.args.n (at_least_missed 30 c.args.n l)

@@ -14,13 +14,11 @@ use Rattle.text.specs.Lines.{tokens_from}
 use Rattle.text.specs.Scan.{is_of, line_at}
 use Rattle.text.proofs.RunLaws.{scan_bounds}
 use Rattle.text.proofs.TokenLaws.{tokens_done, tokens_turn}
-use Rattle.constraint.specs.File.{File}
 use Rattle.constraint.specs.Read.{in_header, declare_all, read_declarations}
 use Rattle.store.specs.Tables.{store_of}
 use Rattle.store.specs.Progress.{stored_file}
 use Rattle.declaration.proofs.HeaderLaws.{in_header_lem}
 use Rattle.declaration.proofs.DeclareLaws.{declarations_misplaced, declarations_missing, declarations_read}
-use borrow.Author.Rules.{rules}
 use Rattle.declaration.proofs.declarations.declaration_line.Goals as goal
 
 pub returns-then-m-ne0 : goal.returns-then-m-ne0

@@ -1,26 +1,22 @@
-use Prim.Native.Nat.{ℕ, ◌-◌, ◌≤◌, ◌<◌}
+use Prim.Native.Nat.{◌-◌, ◌≤◌, ◌<◌}
 use mathlib.Core.Bool.{true}
 use mathlib.Core.Path.{◌≡◌, sym, ◌∙◌}
-use mathlib.Core.List.{List}
 use native.Mathlib.Omega.{arith}
 use lib.ListN.{length, get_or, take, drop}
 use lib.Seq.{length-take-le}
 use Rattle.edition.specs.declared.Edition.{Edition}
 use Rattle.edition.specs.Edition.{edition10, max_variables, max_name_bytes, max_width}
-use Rattle.refusal.proofs.BoolLaws.{passed, failed}
 use Rattle.text.specs.Bytes.{is_letter}
 use Rattle.text.specs.declared.Class.TheVariants.{NameByte, Solid}
 use Rattle.text.specs.Scan.{is_of, past, token_from}
 use Rattle.text.proofs.RunLaws.{strict_on}
 use Rattle.text.proofs.FirstByteLaws.{name_solid, name_bounds}
-use Rattle.constraint.specs.File.{Variable}
 use Rattle.constraint.specs.Read.{declare}
 use Rattle.store.specs.Tables.{length_unit, variables_in}
 use Rattle.store.proofs.SearchLaws.{length_with_name}
 use Rattle.declaration.specs.Internal.{declaration_result}
 use Rattle.declaration.proofs.NewNameLaws.{FreshName, fresh_is, declared_not, declared_by, width_fits}
 use Rattle.declaration.proofs.DeclareLaws.{put_fits, put_variables, put_searchable}
-use borrow.Author.Rules.{rules}
 use Rattle.declaration.proofs.declarations.declare_next.Goals as goal
 
 pub slice_bounds-line-end : goal.slice_bounds-line-end

@@ -1,4 +1,3 @@
-use borrow.Author.Rules.{rules}
 use Rattle.declaration.proofs.declaring.declare.Goals as goal
 
 pub returns-in-NoType : goal.returns-in-NoType

@@ -2,7 +2,6 @@ use mathlib.Core.Path.{ap, sym, ◌∙◌}
 use Rattle.store.specs.Tables.{place}
 use Rattle.store.proofs.LookupLaws.{variables_length}
 use Rattle.declaration.proofs.NewNameLaws.{new_long, new_full, new_reserved, new_declared, new_fresh}
-use borrow.Author.Rules.{rules}
 use Rattle.declaration.proofs.declaring.new_name.Goals as goal
 
 pub returns-then-text-at-gt-NAME_BYTES : goal.returns-then-text-at-gt-NAME_BYTES

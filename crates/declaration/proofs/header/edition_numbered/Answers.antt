@@ -1,5 +1,4 @@
 use Rattle.edition.specs.Edition.{edition_numbered}
-use borrow.Author.Rules.{rules}
 use Rattle.declaration.proofs.header.edition_numbered.Goals as goal
 
 pub returns-then-major-e : goal.returns-then-major-e

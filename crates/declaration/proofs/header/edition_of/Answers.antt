@@ -1,4 +1,3 @@
-use borrow.Author.Rules.{rules}
 use Rattle.declaration.proofs.header.edition_of.Goals as goal
 
 pub returns-in-Value-minor : goal.returns-in-Value-minor

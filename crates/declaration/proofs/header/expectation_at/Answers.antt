@@ -1,6 +1,5 @@
 use mathlib.Core.Path.{sym, ◌∙◌}
 use Rattle.constraint.specs.Read.{expectation_of}
-use borrow.Author.Rules.{rules}
 use Rattle.declaration.proofs.header.expectation_at.Goals as goal
 
 pub returns-then-is_word : goal.returns-then-is_word

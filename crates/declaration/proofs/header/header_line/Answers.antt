@@ -6,8 +6,6 @@ use mathlib.Core.List.{List}
 use mathlib.Core.Path.{◌≡◌, sym, ◌∙◌}
 use lib.ListN.{length, take, drop}
 use lib.Seq.{length-take-le}
-use borrow.Author.Rules.{rules}
-use Rattle.refusal.proofs.BoolLaws.{passed, failed}
 use Rattle.text.specs.Lines.{tokens_from}
 use Rattle.text.specs.Scan.{token_at, line_at}
 use Rattle.store.specs.Tables.{Store}
@@ -18,11 +16,11 @@ use Rattle.declaration.proofs.HeaderLaws.{header_late, header_again, header_miss
 use Rattle.declaration.proofs.header.header_line.Goals as goal
 
 pub returns-then-p-ne0 : goal.returns-then-p-ne0
-returns-then-p-ne0 c =     let a = c.args in
+returns-then-p-ne0 c = let a = c.args in
     (λ bytes t next. rw c.refusal.ensures (header_late a.text.now a.at bytes t a.p next a.line c.if-p-ne0.true), tt)
 
 pub returns-then-not-is_first : goal.returns-then-not-is_first
-returns-then-not-is_first c =     let a = c.args in
+returns-then-not-is_first c = let a = c.args in
     (λ bytes t next. rw c.refusal-then-not-is_first.ensures (header_again a.text.now a.at bytes t a.p next c.if-p-ne0.false a.line ((sym (c.is_first.ensures bytes t) ∙ c.if-not-is_first.true))), tt)
 
 pub slice_bounds-token_at-end : goal.slice_bounds-token_at-end
@@ -50,7 +48,7 @@ unless_more-requires-in-OfNumber c =
     within.1
 
 pub returns-in-NoMore : goal.returns-in-NoMore
-returns-in-NoMore c =     (λ bytes t next. rw c.refusal-in-NoMore.ensures (header_missing c.args.text.now c.args.at bytes t c.args.p next c.if-p-ne0.false c.args.line ((sym (c.is_first.ensures bytes t) ∙ c.if-not-is_first.false)) (le_of_lt c.requires) (rw c.in-NoMore.is at c.next_token.ensures.0)), tt)
+returns-in-NoMore c = (λ bytes t next. rw c.refusal-in-NoMore.ensures (header_missing c.args.text.now c.args.at bytes t c.args.p next c.if-p-ne0.false c.args.line ((sym (c.is_first.ensures bytes t) ∙ c.if-not-is_first.false)) (le_of_lt c.requires) (rw c.in-NoMore.is at c.next_token.ensures.0)), tt)
 
 pub returns-in-Wrong : goal.returns-in-Wrong
 returns-in-Wrong c =

@@ -1,4 +1,3 @@
-use borrow.Author.Rules.{rules}
 use Rattle.declaration.proofs.header.is_first.Goals as goal
 
 pub returns-in-NoVersion : goal.returns-in-NoVersion

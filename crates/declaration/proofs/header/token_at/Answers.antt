@@ -1,7 +1,6 @@
 use mathlib.Core.Path.{sym, ap, ◌∙◌}
 use Rattle.store.specs.Progress.{version_read, expectation_read}
 use Rattle.declaration.specs.Internal.{edition_token, number_token}
-use borrow.Author.Rules.{rules}
 use Rattle.declaration.proofs.header.token_at.Goals as goal
 
 pub returns-in-NoVersion : goal.returns-in-NoVersion

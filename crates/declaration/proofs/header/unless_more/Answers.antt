@@ -1,4 +1,3 @@
-use borrow.Author.Rules.{rules}
 use Rattle.declaration.proofs.header.unless_more.Goals as goal
 
 pub returns-in-OneMore : goal.returns-in-OneMore

@@ -1,6 +1,5 @@
 use Rattle.arithmetic.specs.declared.Bitwise.TheVariants.{And, Or, Xor}
 use Rattle.arithmetic.proofs.PlaceLaws.{combined_is}
-use Rattle.std.proofs.Common.{rules}
 use Rattle.evaluation.proofs.bits.combine.Goals as goal
 
 pub returns-in-And : goal.returns-in-And

@@ -1,4 +1,4 @@
-use Rattle.std.proofs.Common.{sym, rules}
+use Rattle.std.proofs.Common.{sym}
 use Rattle.arithmetic.proofs.PlaceLaws.{inverted_is}
 use Rattle.evaluation.proofs.bits.invert.Goals as goal
 

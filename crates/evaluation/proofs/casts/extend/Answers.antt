@@ -1,5 +1,4 @@
 use Rattle.arithmetic.specs.Arithmetic.{extended}
-use Rattle.std.proofs.Common.{rules}
 use Rattle.evaluation.proofs.casts.extend.Goals as goal
 
 pub returns-in-Sext : goal.returns-in-Sext

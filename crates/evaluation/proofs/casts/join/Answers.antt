@@ -1,4 +1,4 @@
-use Rattle.std.proofs.Common.{◌≡◌, ℕ, ◌+◌, ◌*◌, ◌%◌, ◌^◌, ◌<◌, ◌≤◌, shl_exact, rules}
+use Rattle.std.proofs.Common.{◌≡◌, ℕ, ◌+◌, ◌*◌, ◌%◌, ◌^◌, ◌<◌, ◌≤◌, shl_exact}
 use lib.Bits.{bit_or, or_shifted}
 use Rattle.edition.specs.Word.{word_bits}
 use Rattle.evaluation.proofs.casts.join.Goals as goal

@@ -1,4 +1,4 @@
-use Rattle.std.proofs.Common.{sym, rules}
+use Rattle.std.proofs.Common.{sym}
 use Rattle.arithmetic.specs.declared.Comparison.TheVariants.{Equal, NotEqual, Ule, Uge, Ult, Ugt, Sle, Sge, Slt, Sgt}
 use Rattle.arithmetic.proofs.OrderLaws.{compared_is}
 use Rattle.evaluation.proofs.orders.compare.Goals as goal

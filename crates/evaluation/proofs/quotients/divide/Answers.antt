@@ -1,4 +1,4 @@
-use Rattle.std.proofs.Common.{div-add-mod', arith, rules}
+use Rattle.std.proofs.Common.{div-add-mod', arith}
 use Rattle.arithmetic.specs.Arithmetic.{divided}
 use Rattle.evaluation.proofs.quotients.divide.Goals as goal
 
@@ -8,7 +8,7 @@ returns-in-Udiv c = rw c.in-Udiv.is
 
 pub returns-in-Urem : goal.returns-in-Urem
 unfolding divided
-returns-in-Urem c =     rw c.in-Urem.is (omega (arith, div-add-mod' c.args.a c.args.b))
+returns-in-Urem c = rw c.in-Urem.is (omega (arith, div-add-mod' c.args.a c.args.b))
 
 pub returns-in-Sdiv : goal.returns-in-Sdiv
 returns-in-Sdiv c = rw c.in-Sdiv.is c.signed_quotient.ensures

@@ -1,4 +1,4 @@
-use Rattle.std.proofs.Common.{◌-◌, sym, arith, pow_pos, rules}
+use Rattle.std.proofs.Common.{◌-◌, sym, arith, pow_pos}
 use Rattle.arithmetic.proofs.SignedLaws.{magnitude_low, magnitude_high}
 use Rattle.evaluation.proofs.quotients.magnitude.Goals as goal
 
@@ -9,4 +9,4 @@ pub returns-then-a-top : goal.returns-then-a-top
 returns-then-a-top c = sym (magnitude_low c.args.k c.args.a (omega arith))
 
 pub returns-else-a-top : goal.returns-else-a-top
-returns-else-a-top c =     rw c.mask.ensures (sym (magnitude_high c.args.k c.args.a (omega arith) (omega arith)))
+returns-else-a-top c = rw c.mask.ensures (sym (magnitude_high c.args.k c.args.a (omega arith) (omega arith)))

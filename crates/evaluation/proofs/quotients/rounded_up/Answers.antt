@@ -1,4 +1,4 @@
-use Rattle.std.proofs.Common.{◌-◌, div-le_self, arith, rules}
+use Rattle.std.proofs.Common.{◌-◌, div-le_self, arith}
 use Rattle.arithmetic.proofs.SignedLaws.{ceiling_zero, ceiling_pos}
 use Rattle.evaluation.proofs.quotients.rounded_up.Goals as goal
 

@@ -1,4 +1,4 @@
-use Rattle.std.proofs.Common.{sym, refl, arith, rules}
+use Rattle.std.proofs.Common.{sym, refl, arith}
 use Rattle.arithmetic.specs.Arithmetic.{shifted}
 use Rattle.arithmetic.proofs.Powers.{shr_gone}
 use Rattle.evaluation.proofs.shifts.logical_right.Goals as goal

@@ -1,4 +1,3 @@
-use Rattle.std.proofs.Common.{rules}
 use Rattle.evaluation.proofs.shifts.shift.Goals as goal
 
 pub returns-in-Shl : goal.returns-in-Shl

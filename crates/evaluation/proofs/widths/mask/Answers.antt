@@ -1,5 +1,4 @@
 use Rattle.arithmetic.proofs.Powers.{ones_shr}
-use Rattle.std.proofs.Common.{rules}
 use Rattle.evaluation.proofs.widths.mask.Goals as goal
 
 pub returns : goal.returns

@@ -1,4 +1,4 @@
-use Rattle.std.proofs.Common.{◌-◌, arith, rules}
+use Rattle.std.proofs.Common.{◌-◌, arith}
 use Rattle.arithmetic.proofs.Powers.{one_shl}
 use Rattle.evaluation.proofs.widths.top.Goals as goal
 

@@ -1,11 +1,10 @@
 use Prim.Native.Nat.{ℕ, ◌-◌, ◌≤◌}
-use mathlib.Core.Path.{◌≡◌, sym, ◌∙◌}
+use mathlib.Core.Path.{◌≡◌}
 use mathlib.Core.List.{List}
 use lib.ListN.{take}
-use borrow.Author.Rules.{rules}
 use Rattle.judge.specs.InUse.{first_unfit}
 use Rattle.store.specs.Tables.{variables_in}
-use Rattle.judge.proofs.UnfitLaws.{unfit_from, unfit_start, unfit_later, unfit_here, unfit_nowhere}
+use Rattle.judge.proofs.UnfitLaws.{unfit_from}
 use Rattle.judge.proofs.in_use.first_unfit.Given as goal
 
 -- `first_unfit` meets its contract. The loop's invariant: the first value that does not fit is the first of those that are left.

@@ -1,4 +1,3 @@
-use borrow.Author.Rules.{rules}
 use Rattle.judge.proofs.RoomLaws.{values_short, verdicts_short, results_short, room_accepted}
 use Rattle.judge.proofs.in_use.tables_room.Goals as goal
 

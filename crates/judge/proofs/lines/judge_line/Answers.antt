@@ -1,5 +1,4 @@
 use mathlib.Core.Path.{◌≡◌, sym, ap, ◌∙◌}
-use borrow.Author.Rules.{rules}
 use Rattle.store.specs.Tables.{line_in}
 use Rattle.arithmetic.proofs.RuleLaws.{evaluable}
 use Rattle.judge.proofs.HeadLaws.{judge_alike}
@@ -8,7 +7,7 @@ use Rattle.judge.proofs.lines.judge_line.Goals as goal
 
 pub evaluate-requires : goal.evaluate-requires
 unfolding line_in
-evaluate-requires c =     let h = c.requires.3 in
+evaluate-requires c = let h = c.requires.3 in
     let xs = h.variables in
     let f = h.heads_fit in
     let r = h.rules in

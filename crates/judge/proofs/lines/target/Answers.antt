@@ -1,5 +1,4 @@
 use mathlib.Core.Path.{refl, ◌∙◌}
-use borrow.Author.Rules.{rules}
 use Rattle.judge.proofs.HeadLaws.{target_absent, target_there}
 use Rattle.judge.proofs.lines.target.Goals as goal
 

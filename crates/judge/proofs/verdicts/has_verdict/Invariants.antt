@@ -1,12 +1,10 @@
 use Prim.Native.Nat.{◌+◌, ◌-◌, ◌≤◌}
-use mathlib.Core.Path.{◌≡◌, refl, ◌∙◌}
+use mathlib.Core.Path.{◌≡◌}
 use mathlib.Core.Bool.{◌||◌}
 use lib.Dec.{eqb}
 use lib.ListN.{length, drop}
-use borrow.Author.Rules.{rules}
 use Rattle.refusal.specs.Lists.{first_from, is_there}
 use Rattle.judge.specs.Judge.{first_verdict}
-use Rattle.judge.proofs.OverallLaws.{found_more, found_all}
 use Rattle.judge.proofs.verdicts.has_verdict.Given as goal
 
 -- `has_verdict` meets its contract. The loop's invariant: there is a verdict v where it was found, or among those that are left.

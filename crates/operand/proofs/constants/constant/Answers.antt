@@ -10,7 +10,6 @@ use Rattle.text.specs.Scan.{token_at}
 use Rattle.operand.specs.Internal.{operand_result}
 use Rattle.operand.proofs.ConstantLaws.{constant_head_fits, good_stops, constant_stop, constant_read}
 use Rattle.operand.proofs.TakenLaws.{taken_refused, taken_read}
-use borrow.Author.Rules.{rules}
 use Rattle.operand.proofs.constants.constant.Goals as goal
 
 pub overflow_sub-colon : goal.overflow_sub-colon

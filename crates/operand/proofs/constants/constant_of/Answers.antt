@@ -1,4 +1,3 @@
-use borrow.Author.Rules.{rules}
 use Rattle.operand.proofs.constants.constant_of.Goals as goal
 
 pub returns-in-Misspelt : goal.returns-in-Misspelt

@@ -1,5 +1,4 @@
 use mathlib.Core.Path.{ap, sym, ◌∙◌}
-use borrow.Author.Rules.{rules}
 use Prim.Native.Nat.{◌+◌, ◌<◌}
 use native.Mathlib.Omega.{arith}
 use Rattle.store.specs.Tables.{variable_mark, head_width, variables_in, place}
@@ -12,7 +11,7 @@ pub returns-then-text-at-gt-NAME_BYTES : goal.returns-then-text-at-gt-NAME_BYTES
 returns-then-text-at-gt-NAME_BYTES c = (variable_long _ _ _ c.if-text-at-gt-NAME_BYTES.true, tt)
 
 pub returns-in-At : goal.returns-in-At
-returns-in-At c =     let w = c.width_of in
+returns-in-At c = let w = c.width_of in
     let i = c.in-At.i in
     let a = c.args in
     let e = w.ensures a.file.now in
@@ -20,4 +19,4 @@ returns-in-At c =     let w = c.width_of in
     (rw (c.variable_head.ensures, operand_variable (variable_mark + head_width w.result) i (omega arith)) (variable_found _ _ _ c.if-text-at-gt-NAME_BYTES.false _ (ap place (sym c.in-At.is) ∙ c.find.ensures)), rw c.variable_head.ensures (variable_fits (variables_in a.file.now a.variables.now a.n) i w.result e b))
 
 pub returns-in-Nowhere : goal.returns-in-Nowhere
-returns-in-Nowhere c =     (variable_unknown _ _ _ c.if-text-at-gt-NAME_BYTES.false (ap place (sym c.in-Nowhere.is) ∙ c.find.ensures), tt)
+returns-in-Nowhere c = (variable_unknown _ _ _ c.if-text-at-gt-NAME_BYTES.false (ap place (sym c.in-Nowhere.is) ∙ c.find.ensures), tt)

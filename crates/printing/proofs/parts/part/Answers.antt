@@ -1,4 +1,3 @@
-use borrow.Author.Rules.{rules}
 use Rattle.printing.proofs.PartLaws.{part_none, part_rest, part_whole}
 use Rattle.printing.proofs.parts.part.Goals as goal
 

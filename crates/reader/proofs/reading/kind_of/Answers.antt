@@ -3,7 +3,6 @@ use lib.ListN.{get_or}
 use borrow.Author.Tests.{eq-eqb, ne_eqb}
 use Rattle.constraint.specs.Read.{kind_of}
 use Rattle.reader.proofs.ReaderLaws.{first_byte}
-use borrow.Author.Rules.{rules}
 use Rattle.reader.proofs.reading.kind_of.Goals as goal
 
 pub returns-then-line-at-eq35 : goal.returns-then-line-at-eq35

@@ -2,7 +2,6 @@ use mathlib.Core.Path.{ap}
 use native.Mathlib.Omega.{arith}
 use Rattle.store.specs.Progress.{version_read}
 use Rattle.reader.proofs.ReaderLaws.{file_long, file_refused, file_unversioned, file_read}
-use borrow.Author.Rules.{rules}
 use Rattle.reader.proofs.reading.read.Goals as goal
 
 pub returns-then-file-gt-FILE_BYTES : goal.returns-then-file-gt-FILE_BYTES

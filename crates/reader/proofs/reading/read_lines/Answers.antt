@@ -1,26 +1,21 @@
-use Prim.Native.Nat.{◌-◌}
-use mathlib.Core.Path.{◌≡◌, sym, ◌∙◌}
+use mathlib.Core.Path.{sym, ◌∙◌}
 use native.Mathlib.Omega.{arith}
-use lib.ListN.{length}
-use borrow.Author.Rules.{rules}
 use Rattle.refusal.specs.declared.Subject.TheVariants.{Constraint}
 use Rattle.text.proofs.FoundLineLaws.{Ended, line_ends}
-use Rattle.text.proofs.ReadingLaws.{Reading, reading_starts, reading_ends, reading_stops, reading_goes, reading_faults}
+use Rattle.text.proofs.ReadingLaws.{reading_starts, reading_ends, reading_stops, reading_goes, reading_faults}
 use Rattle.constraint.specs.File.{empty_file}
 use Rattle.constraint.specs.Read.{read_line}
-use Rattle.store.specs.Names.{Searchable}
-use Rattle.store.specs.Tables.{store_of, StoreSized}
-use Rattle.store.specs.Progress.{stored_file, HeadsInUseFit, InTables}
+use Rattle.store.specs.Tables.{store_of}
 use Rattle.reader.proofs.ReaderLaws.{nothing_held, room_enough}
 use Rattle.reader.proofs.reading.read_lines.Goals as goal
 
 pub loop-i-init : goal.loop-i-init
-loop-i-init c =     let t = store_of c.args.variables.now c.args.heads.now c.args.bodies.now in
+loop-i-init c = let t = store_of c.args.variables.now c.args.heads.now c.args.bodies.now in
     rw (c.nothing-p.ensures, nothing_held c.args.file.now t)
     (reading_starts Constraint read_line empty_file c.args.file.now, c.requires.1, record { variables = omega arith; lines = omega arith }, c.requires.2, λ k h. let z : ⊥ = omega arith in absurd z)
 
 pub returns-in-Faulty : goal.returns-in-Faulty
-returns-in-Faulty c =     let i = c.loop-i.invariant in
+returns-in-Faulty c = let i = c.loop-i.invariant in
     (rw c.refusal.ensures (reading_faults Constraint read_line empty_file c.args.file.now i.0 c.loop-i-test.true c.in-Faulty.bad (sym c.in-Faulty.is ∙ c.find_line.ensures)), i.1, tt, tt, tt)
 
 pub read_any_line-added-requires : goal.read_any_line-added-requires
@@ -56,5 +51,5 @@ loop-i-preserved c =
     (reading_goes Constraint read_line empty_file c.args.file.now i.0 c.loop-i-test.true c.in-Ends.stop next line _ goes, e.1, rw step at (room_enough c.loop-i.p c.read_any_line-added.result i.2 e.3), rw step at e.2, rw step at (e.4 i.4))
 
 pub returns : goal.returns
-returns c =     let i = c.loop-i.invariant in
+returns c = let i = c.loop-i.invariant in
     (reading_ends Constraint read_line empty_file c.args.file.now i.0 (omega arith), i.1, i.3, i.2, i.4)

@@ -1,17 +1,14 @@
-use Prim.Native.Nat.{ℕ, ◌<◌}
+use Prim.Native.Nat.{◌<◌}
 use mathlib.Core.Path.{◌≡◌, refl, sym, ap, ◌∙◌}
-use mathlib.Core.List.{List}
 use native.Mathlib.Omega.{arith}
 use lib.ListN.{length, take}
 use lib.Seq.{length-take-le}
 use Rattle.refusal.specs.Result.{accepted}
-use Rattle.constraint.specs.File.{File}
 use Rattle.constraint.specs.Read.{add_line}
 use Rattle.store.specs.Tables.{store_of}
 use Rattle.store.specs.Progress.{stored_file}
 use Rattle.store.proofs.LineTableLaws.{lines_length}
 use Rattle.reader.proofs.ReaderLaws.{line_added, line_fits}
-use borrow.Author.Rules.{rules}
 use Rattle.reader.proofs.reading.read_statement.Goals as goal
 
 pub slice_bounds-line-end : goal.slice_bounds-line-end

@@ -1,5 +1,4 @@
 use mathlib.Core.Path.{sym, ◌∙◌}
-use borrow.Author.Rules.{rules}
 use Rattle.statement.proofs.operations.finish.Goals as goal
 
 pub returns-in-OneMore : goal.returns-in-OneMore

@@ -11,7 +11,6 @@ use Rattle.text.specs.Scan.{token_at}
 use Rattle.constraint.specs.File.{edition_of}
 use Rattle.store.proofs.LineTableLaws.{kept_same, kept_operator, fit_operator, line_operator}
 use Rattle.statement.proofs.OperandLaws.{operation_missing, operation_unknown, operation_read}
-use borrow.Author.Rules.{rules}
 use Rattle.statement.proofs.operations.place_operator.Goals as goal
 
 pub slice_bounds-operator_at-end : goal.slice_bounds-operator_at-end
@@ -27,7 +26,7 @@ operator_at-requires c =
     omega (arith, within)
 
 pub returns-in-NoMore : goal.returns-in-NoMore
-returns-in-NoMore c =     (λ bodies f start next h b. rw c.refusal.ensures (operation_missing f _ _ c.args.line.now start next h (rw c.in-NoMore.is at c.next_token.ensures.0)), λ bodies. kept_same _ bodies _, λ bodies xs f. f, c.requires.1, tt)
+returns-in-NoMore c = (λ bodies f start next h b. rw c.refusal.ensures (operation_missing f _ _ c.args.line.now start next h (rw c.in-NoMore.is at c.next_token.ensures.0)), λ bodies. kept_same _ bodies _, λ bodies xs f. f, c.requires.1, tt)
 
 pub returns-in-Nothing : goal.returns-in-Nothing
 returns-in-Nothing c =

@@ -4,24 +4,23 @@ use native.Mathlib.Omega.{arith}
 use Rattle.store.specs.Tables.{line_bodies}
 use Rattle.store.proofs.LineTableLaws.{kept_head, kept_body, fit_operand}
 use Rattle.statement.proofs.OperandLaws.{next_refused, next_placed, blank_placed}
-use borrow.Author.Rules.{rules}
 use Rattle.statement.proofs.operations.place_part.Goals as goal
 
 pub take_operand-requires : goal.take_operand-requires
-take_operand-requires c =     ((rw c.in-UpTo.is at c.before_operand.ensures.5).0.at, c.requires.0, c.requires.1)
+take_operand-requires c = ((rw c.in-UpTo.is at c.before_operand.ensures.5).0.at, c.requires.0, c.requires.1)
 
 pub returns-in-NotRead : goal.returns-in-NotRead
-returns-in-NotRead c =     let b = c.before_operand.ensures in
+returns-in-NotRead c = let b = c.before_operand.ensures in
     let bodies = c.args.bodies.now in
     (λ f start next v h blank. rw c.in-NotRead.is at (b.0 bodies f start next h blank), b.1 bodies, b.2 bodies _, λ blank h. rw (b.3 (omega arith)) (blank (omega arith)), b.4, c.requires.5, tt)
 
 pub returns-in-Halt : goal.returns-in-Halt
-returns-in-Halt c =     let b = c.before_operand.ensures in
+returns-in-Halt c = let b = c.before_operand.ensures in
     let bodies = c.args.bodies.now in
     (λ f start next v h blank. next_refused f _ c.args.slot _ _ _ _ _ v _ (rw c.in-Halt.is at (c.take_operand.ensures.0 start next h)) ∙ rw c.in-UpTo.is at (b.0 bodies f start next h blank), b.1 bodies, b.2 bodies _, λ blank h. rw (b.3 (omega arith)) (blank (omega arith)), b.4, c.requires.5, tt)
 
 pub returns-in-Got : goal.returns-in-Got
-returns-in-Got c =     let b = c.before_operand.ensures in
+returns-in-Got c = let b = c.before_operand.ensures in
     let bodies = c.args.bodies.now in
     let slot = c.args.slot in
     let m = c.args.m in

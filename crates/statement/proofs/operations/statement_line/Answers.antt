@@ -1,24 +1,23 @@
-use Prim.Native.Nat.{ℕ, ◌+◌, ◌-◌}
+use Prim.Native.Nat.{ℕ, ◌+◌}
 use mathlib.Core.Path.{◌≡◌, refl, ◌∙◌}
 use mathlib.Core.Bool.{true}
 use lib.ListN.{length, drop}
 use native.Mathlib.Omega.{arith}
-use borrow.Author.Rules.{rules}
 use Rattle.text.specs.Lines.{tokens_from}
 use Rattle.text.specs.Scan.{line_at}
 use Rattle.constraint.specs.File.{File}
 use Rattle.constraint.specs.Read.{read_statement}
-use Rattle.store.specs.Tables.{variables_in, line_in, LinesKept}
+use Rattle.store.specs.Tables.{line_in, LinesKept}
 use Rattle.store.proofs.LineTableLaws.{kept_same, kept_on, kept_cleared, fit_cleared, line_cleared}
-use Rattle.statement.proofs.OperandLaws.{ReadUpTo, left_done, statement_full, statement_starts, first_most, fits_any}
+use Rattle.statement.proofs.OperandLaws.{left_done, statement_full, statement_starts, first_most, fits_any}
 use Rattle.statement.specs.Internal.{left_to_read}
 use Rattle.statement.proofs.operations.statement_line.Goals as goal
 
 pub returns-then-m-ge-LINES : goal.returns-then-m-ge-LINES
-returns-then-m-ge-LINES c =     (λ f next v q. rw c.refusal.ensures (statement_full c.args.form f c.args.line.now c.args.at next _ q c.if-m-ge-LINES.true), kept_same _ _ _, tt, c.requires.3, c.requires.4)
+returns-then-m-ge-LINES c = (λ f next v q. rw c.refusal.ensures (statement_full c.args.form f c.args.line.now c.args.at next _ q c.if-m-ge-LINES.true), kept_same _ _ _, tt, c.requires.3, c.requires.4)
 
 pub loop-slot-init : goal.loop-slot-init
-loop-slot-init c =     let e = c.clear_operands.ensures in
+loop-slot-init c = let e = c.clear_operands.ensures in
     let heads = c.args.heads.now in
     let bodies = c.args.bodies.now in
     let m = c.args.m in
@@ -35,7 +34,7 @@ loop-slot-init c =     let e = c.clear_operands.ensures in
     }
 
 pub place_part-requires : goal.place_part-requires
-place_part-requires c =     (c.requires.1, c.requires.2, c.loop-slot.invariant.in_line, c.loop-slot-test.true, c.loop-slot.invariant.sized_heads, c.loop-slot.invariant.sized_bodies, c.if-m-ge-LINES.false)
+place_part-requires c = (c.requires.1, c.requires.2, c.loop-slot.invariant.in_line, c.loop-slot-test.true, c.loop-slot.invariant.sized_heads, c.loop-slot.invariant.sized_bodies, c.if-m-ge-LINES.false)
 
 pub returns-in-NotRead : goal.returns-in-NotRead
 returns-in-NotRead c =
@@ -54,7 +53,7 @@ pub loop-slot-smaller : goal.loop-slot-smaller
 loop-slot-smaller c = let i = c.loop-slot.invariant.in_line.most in omega arith
 
 pub loop-slot-preserved : goal.loop-slot-preserved
-loop-slot-preserved c =     let r = c.place_part.ensures in
+loop-slot-preserved c = let r = c.place_part.ensures in
     let i = c.loop-slot.invariant in
     let p = rw c.in-UpTo.is at r.6 in
     record {
@@ -69,7 +68,7 @@ loop-slot-preserved c =     let r = c.place_part.ensures in
     }
 
 pub finish-requires : goal.finish-requires
-finish-requires c =     let i = c.loop-slot.invariant in
+finish-requires c = let i = c.loop-slot.invariant in
     (i.in_line.at, i.sized_heads, i.sized_bodies, c.if-m-ge-LINES.false)
 
 pub returns : goal.returns

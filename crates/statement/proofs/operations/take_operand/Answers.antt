@@ -8,11 +8,10 @@ use Rattle.text.proofs.RunLaws.{scan_bounds}
 use Rattle.text.proofs.TokenLaws.{tokens_done}
 use Rattle.statement.proofs.OperandLaws.{operand_missing}
 use Rattle.operand.proofs.TakenLaws.{next_taken, next_constant}
-use borrow.Author.Rules.{rules}
 use Rattle.statement.proofs.operations.take_operand.Goals as goal
 
 pub returns-then-start-line : goal.returns-then-start-line
-returns-then-start-line c =     (λ start next h. rw (c.refusal.ensures, c.if-start-line.true) (operand_missing _ c.args.line.now start next _ h (tokens_done c.args.line.now c.args.i c.spaces-start.result c.spaces-start.ensures c.if-start-line.true)), tt, tt)
+returns-then-start-line c = (λ start next h. rw (c.refusal.ensures, c.if-start-line.true) (operand_missing _ c.args.line.now start next _ h (tokens_done c.args.line.now c.args.i c.spaces-start.result c.spaces-start.ensures c.if-start-line.true)), tt, tt)
 
 pub bounds-line-start : goal.bounds-line-start
 bounds-line-start c =

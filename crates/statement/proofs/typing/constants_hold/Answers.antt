@@ -1,11 +1,10 @@
 use Rattle.statement.proofs.TypingLaws.{constant_is}
 use Rattle.constraint.specs.TypeRules.{constant_rule}
-use borrow.Author.Rules.{rules}
 use Rattle.statement.proofs.typing.constants_hold.Goals as goal
 
 pub returns-in-Extr : goal.returns-in-Extr
 unfolding constant_rule
-returns-in-Extr c =     λ x y. rw (c.in-Extr.is, c.is_constant-in-Extr.ensures, c.is_constant.ensures, constant_is c.args.b x, constant_is c.args.c y)
+returns-in-Extr c = λ x y. rw (c.in-Extr.is, c.is_constant-in-Extr.ensures, c.is_constant.ensures, constant_is c.args.b x, constant_is c.args.c y)
 
 pub returns-in-Combine : goal.returns-in-Combine
 unfolding constant_rule

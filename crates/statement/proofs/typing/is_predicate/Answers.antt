@@ -2,17 +2,16 @@ use mathlib.Core.Path.{sym}
 use Rattle.arithmetic.specs.Rules.{i1, is}
 use Rattle.arithmetic.proofs.RuleLaws.{combine_tests, not_tests, ite_tests}
 use Rattle.constraint.specs.TypeRules.{is_predicate}
-use borrow.Author.Rules.{rules}
 use Rattle.statement.proofs.typing.is_predicate.Goals as goal
 
 pub returns-in-Combine : goal.returns-in-Combine
 unfolding is_predicate
-returns-in-Combine c =     let s = c.args in
+returns-in-Combine c = let s = c.args in
     rw c.in-Combine.is (sym (combine_tests (is i1) s.a s.b s.c _))
 
 pub returns-in-Not : goal.returns-in-Not
 unfolding is_predicate
-returns-in-Not c =     let s = c.args in
+returns-in-Not c = let s = c.args in
     rw c.in-Not.is (sym (not_tests (is i1) s.a s.b s.c))
 
 pub returns-in-Implies : goal.returns-in-Implies
@@ -25,7 +24,7 @@ returns-in-Compare c = rw c.in-Compare.is
 
 pub returns-in-Ite : goal.returns-in-Ite
 unfolding is_predicate
-returns-in-Ite c =     let s = c.args in
+returns-in-Ite c = let s = c.args in
     rw c.in-Ite.is (sym (ite_tests (is i1) s.a s.b s.c))
 
 pub returns-in-Compute : goal.returns-in-Compute

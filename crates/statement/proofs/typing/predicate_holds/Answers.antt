@@ -1,6 +1,5 @@
 use mathlib.Core.Path.{◌∙◌}
 use Rattle.statement.proofs.TypingLaws.{predicate_absent, predicate_there}
-use borrow.Author.Rules.{rules}
 use Rattle.statement.proofs.typing.predicate_holds.Goals as goal
 
 pub returns-then-output-eq-ABSENT : goal.returns-then-output-eq-ABSENT

@@ -1,6 +1,5 @@
 use mathlib.Core.Path.{◌∙◌}
 use Rattle.statement.proofs.TypingLaws.{result_absent, result_there}
-use borrow.Author.Rules.{rules}
 use Rattle.statement.proofs.typing.result_width.Goals as goal
 
 pub returns-then-head-eq-ABSENT : goal.returns-then-head-eq-ABSENT

@@ -1,6 +1,5 @@
 use mathlib.Core.Path.{sym, ◌∙◌}
 use Rattle.statement.proofs.TypingLaws.{rule_constant, rule_other}
-use borrow.Author.Rules.{rules}
 use Rattle.statement.proofs.typing.rule_word.Goals as goal
 
 pub returns-then-is_constant : goal.returns-then-is_constant

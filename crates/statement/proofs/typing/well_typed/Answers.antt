@@ -1,12 +1,11 @@
 use native.Mathlib.Omega.{arith}
 use Rattle.constraint.specs.TypeRules.{well_typed}
 use Rattle.store.specs.Tables.{body_at, operand_in, line_in}
-use borrow.Author.Rules.{rules}
 use Rattle.statement.proofs.typing.well_typed.Goals as goal
 
 pub returns : goal.returns
 unfolding well_typed line_in operand_in
-returns c =     let a = c.args in
+returns c = let a = c.args in
     let none = body_at a.bodies.now a.m 0 in
     λ xs f.
     rw (c.predicate_holds.ensures none, c.constants_hold.ensures c.body_of-2.result c.body_of-3.result, c.typed.ensures)

@@ -1,15 +1,10 @@
 use Prim.Native.Nat.{◌-◌, ◌≤◌}
-use mathlib.Core.Path.{◌≡◌, sym, ◌∙◌}
-use native.Mathlib.Omega.{arith}
-use lib.ListN.{length, get_or, drop}
-use borrow.Author.Rules.{rules}
+use mathlib.Core.Path.{◌≡◌}
+use lib.ListN.{length, drop}
 use Rattle.text.specs.Bytes.{front_of}
 use Rattle.text.specs.declared.Class.TheVariants.{NameByte}
 use Rattle.text.specs.Scan.{is_of, past}
-use Rattle.text.proofs.RunLaws.{past_more, past_stop, past_end}
-use Rattle.text.proofs.FirstByteLaws.{letter_named}
 use Rattle.store.specs.Hash.{hash_after, hash_of}
-use Rattle.store.proofs.HashLaws.{hash_begin, hash_more, hash_stop, hash_end, hash_name}
 use Rattle.store.proofs.hashing.name_at.Given as goal
 
 -- `name_at` meets its contract. The loop's invariant: the run of bytes of a name that is left ends where the whole one does,

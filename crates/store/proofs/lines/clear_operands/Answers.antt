@@ -1,5 +1,4 @@
 use Rattle.store.specs.Tables.{without_operands}
-use borrow.Author.Rules.{rules}
 use Rattle.store.proofs.lines.clear_operands.Goals as goal
 
 pub returns : goal.returns

@@ -2,7 +2,6 @@ use lib.ListN.{length-set}
 use Rattle.store.specs.Tables.{with_operator}
 use native.Mathlib.Omega.{arith}
 use Rattle.arithmetic.proofs.NumberLaws.{number_most}
-use borrow.Author.Rules.{rules}
 use Rattle.store.proofs.lines.put_operator.Goals as goal
 
 pub overflow_cast-heads : goal.overflow_cast-heads

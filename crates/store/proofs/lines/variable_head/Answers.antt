@@ -1,6 +1,5 @@
 use native.Mathlib.Omega.{arith}
 use Rattle.store.specs.Tables.{head_width}
-use borrow.Author.Rules.{rules}
 use Rattle.store.proofs.lines.variable_head.Goals as goal
 
 pub overflow_add-result : goal.overflow_add-result

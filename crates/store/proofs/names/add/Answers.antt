@@ -1,5 +1,4 @@
 use Rattle.store.specs.Names.{with_name}
-use borrow.Author.Rules.{rules}
 use Rattle.store.proofs.names.add.Goals as goal
 
 pub returns : goal.returns

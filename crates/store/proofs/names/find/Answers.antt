@@ -2,10 +2,7 @@ use mathlib.Core.Path.{◌≡◌, sym, ◌∙◌}
 use Prim.Native.Nat.{◌-◌}
 use native.Mathlib.Omega.{arith}
 use lib.ListN.{drop}
-use borrow.Author.Rules.{rules}
-use Rattle.store.specs.Hash.{bucket_of}
-use Rattle.store.specs.Names.{bucket_in}
-use Rattle.store.proofs.ChainLaws.{Walk, walk_first, walk_less, walk_next}
+use Rattle.store.proofs.ChainLaws.{walk_first, walk_less, walk_next}
 use Rattle.store.proofs.SearchLaws.{has, has_part, search_found, search_ended}
 use Rattle.store.proofs.names.find.Goals as goal
 

@@ -1,6 +1,5 @@
 use mathlib.Core.Path.{sym, ◌∙◌}
 use Rattle.store.proofs.VariableTableLaws.{width_held, width_none}
-use borrow.Author.Rules.{rules}
 use Rattle.store.proofs.variables.width_of.Goals as goal
 
 pub returns-then-i-n : goal.returns-then-i-n

@@ -9,5 +9,5 @@ pub overflow_add-result-2 : goal.overflow_add-result-2
 overflow_add-result-2 c = omega (arith, digits_count c.args.v)
 
 pub returns : goal.returns
-returns c =     let name = rw (c.name_length.ensures, c.name_start.ensures) at (part_length c.part-name.ensures) in
+returns c = let name = rw (c.name_length.ensures, c.name_start.ensures) at (part_length c.part-name.ensures) in
     omega (arith, name, setting_length c.args.file.now c.args.word c.args.v)

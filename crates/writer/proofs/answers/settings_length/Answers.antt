@@ -19,6 +19,6 @@ loop-i-preserved c =
     more
 
 pub returns : goal.returns
-returns c =     let a = c.args in
+returns c = let a = c.args in
     let all = settings_are a.file.now a.variables.now a.row.now a.n (omega (arith, c.requires.2)) in
     (rw all (measuring_done c.loop-i.invariant c.loop-i-test.false), omega arith)
