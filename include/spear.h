@@ -3,7 +3,7 @@
  * constraint file and the writing of an answer, for C programs. In both kinds
  * of file lines end with LF or CR LF; what is written ends them with LF.
  *
- * Link target/staticlib/libspear.a, which `rt staticlib spear` makes.
+ * Link target/staticlib/libspear.a, which tools/c_library.sh makes.
  *
  * Nothing is asked of what a call is lent: any bytes, any numbers, any lengths.
  * A pointer may be null only where its length is 0. A range that a call writes

@@ -1,4 +1,4 @@
-// The calls for C programs. include/spear.h has their declarations.
+// The calls for C programs; spear_c exports them.
 #![tactic(auto)]
 
 ghost use Rattle.std.specs.Prelude.{◌≡◌};
@@ -39,16 +39,14 @@ fn code_of(report: Report) -> u32
 }
 
 // Checks an answer against a constraint file, any bytes both; the tables are local to the call.
-#[unsafe(no_mangle)]
-pub extern "C" fn spear_check(constraints: &[u8], answer: &[u8]) -> u32
+pub fn spear_check(constraints: &[u8], answer: &[u8]) -> u32
     ensures { result ≡ check_code constraints.now answer.now }
 {
     code_of(report(constraints, answer))
 }
 
 // The check into the caller's tables.
-#[unsafe(no_mangle)]
-pub extern "C" fn spear_check_tables(
+pub fn spear_check_tables(
     constraints: &[u8],
     answer: &[u8],
     values: &mut [u64],
@@ -61,8 +59,7 @@ pub extern "C" fn spear_check_tables(
 }
 
 // The change of a variable, from 0, to a value, on the caller's tables.
-#[unsafe(no_mangle)]
-pub extern "C" fn spear_change(
+pub fn spear_change(
     constraints: &[u8],
     values: &mut [u64],
     verdicts: &mut [u8],
@@ -76,16 +73,14 @@ pub extern "C" fn spear_change(
 }
 
 // The index of a constraint file, into the caller's two tables.
-#[unsafe(no_mangle)]
-pub extern "C" fn spear_index(constraints: &[u8], starts: &mut [u32], lists: &mut [u32]) -> u64
+pub fn spear_index(constraints: &[u8], starts: &mut [u32], lists: &mut [u32]) -> u64
     ensures { record { word = result; starts = starts.new; lists = lists.new } ≡ packed_index (index_outcome constraints.now starts.old lists.old) }
 {
     pack_index(index(constraints, starts, lists))
 }
 
 // The change through an index.
-#[unsafe(no_mangle)]
-pub extern "C" fn spear_change_through(
+pub fn spear_change_through(
     constraints: &[u8],
     values: &mut [u64],
     verdicts: &mut [u8],
@@ -110,16 +105,14 @@ pub extern "C" fn spear_change_through(
 }
 
 // The clean spelling of a constraint file, into the caller's room.
-#[unsafe(no_mangle)]
-pub extern "C" fn spear_clean(constraints: &[u8], output: &mut [u8]) -> u64
+pub fn spear_clean(constraints: &[u8], output: &mut [u8]) -> u64
     ensures { record { word = result; output = output.new } ≡ packed_write (clean_outcome constraints.now output.old) }
 {
     pack_write(clean(constraints, output))
 }
 
 // The answer with the caller's values, into the caller's room.
-#[unsafe(no_mangle)]
-pub extern "C" fn spear_write(constraints: &[u8], values: &[u64], output: &mut [u8]) -> u64
+pub fn spear_write(constraints: &[u8], values: &[u64], output: &mut [u8]) -> u64
     ensures { record { word = result; output = output.new } ≡ packed_write (write_outcome constraints.now values.now output.old) }
 {
     pack_write(write(constraints, values, output))
