@@ -69,11 +69,11 @@ module _ (e : Edition) (xs : List Variable) (sound : Each (SoundVariable e) xs) 
     operation_again : (ts : List (List ℕ)) → SpellsOperation e xs ts l → SpellsOperation e xs operation_tokens l × Words ts operation_tokens
     operation_again ts h =
         let s = spelling_of e l.operator in
-        let z : h.operator_token ≡ s = (spells_exactly e l.operator h.operator_token).0 (operator_again e h.operator_token l.operator h.operator_spelt_lem) in
+        let z : h.operator_token ≡ s = (spells_exactly e l.operator h.operator_token).0 (operator_again e h.operator_token l.operator h.operator_spelt) in
         let seen = spelling_seen e l.operator in
-        let q = operands_again h.operand_tokens_lem _ h.operands_spelt in
+        let q = operands_again h.operand_tokens _ h.operands_spelt in
         rw (h.are, three_tokens l.operands) (
-          record { operator_token = s; operand_tokens_lem = flat_map (operand_tokens xs) _; are = refl; operator_spelt_lem = subst (λ (t : List ℕ). SpellsOperator e t l.operator) z h.operator_spelt_lem; count = q.1.count ∙ h.count; operands_spelt = q.0; type_rules = h.type_rules },
+          record { operator_token = s; operand_tokens = flat_map (operand_tokens xs) _; are = refl; operator_spelt = subst (λ (t : List ℕ). SpellsOperator e t l.operator) z h.operator_spelt; count = q.1.count ∙ h.count; operands_spelt = q.0; type_rules = h.type_rules },
           record { words = (record { seen = seen.0; some_bytes = seen.1 }, q.1.words); count = omega (arith, q.1.count); cost = omega (arith, q.1.cost, ap length z) },
         )
 

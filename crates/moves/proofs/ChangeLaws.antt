@@ -82,7 +82,7 @@ module _ (f : File) (t : Tables) (i v : ℕ) (x : Option Index) (p : Admitted f 
       sym (set-append_left (take k t.values) (drop k t.values) i v (rw row_long p.is_entitled.variable)) ∙ ap (λ (l : List ℕ). set l i v) (take-append-drop k t.values)
 
   row_after : RowFits f.variables (set (row_in_use f t.values) i v)
-  row_after = fits_set f.variables (row_in_use f t.values) i v (row_fits f.variables (row_in_use f t.values) row_long p.values_fit_lem) (rw row_long p.is_entitled.variable) p.is_entitled.value
+  row_after = fits_set f.variables (row_in_use f t.values) i v (row_fits f.variables (row_in_use f t.values) row_long p.values_fit) (rw row_long p.is_entitled.variable) p.is_entitled.value
 
   -- ---- what an accepted change leaves, of n variables and m lines
   module _ (n m : ℕ) (sized : Sized f n m) where

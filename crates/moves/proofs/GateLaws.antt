@@ -119,7 +119,7 @@ entitled_passed f lent c e =
 -- all
 pub record Admitted (f : File) (t : Tables) (c : Call) : Type 0 where
   pub is_entitled : Entitled f (room_of t) c
-  pub values_fit_lem : first_unfit f.variables (row_in_use f t.values) ≡ none
+  pub values_fit : first_unfit f.variables (row_in_use f t.values) ≡ none
   pub verdicts_fit_lem : first_from (ltb verdict_disregarded) 0 (column_in_use f t.verdicts) ≡ none
   pub index_fits_lem : index_fits f c.index ≡ accepted tt
 
@@ -131,7 +131,7 @@ admitted_passed f t c e =
     let d = then_accepted (verdicts_fit f t.verdicts) _ tt b.1 in
     record {
       is_entitled = entitled_passed f (room_of t) c a.0;
-      values_fit_lem = none_accepted (first_unfit f.variables (row_in_use f t.values)) _ b.0;
+      values_fit = none_accepted (first_unfit f.variables (row_in_use f t.values)) _ b.0;
       verdicts_fit_lem = none_accepted (first_from (ltb verdict_disregarded) 0 (column_in_use f t.verdicts)) _ d.0;
       index_fits_lem = d.1;
     }

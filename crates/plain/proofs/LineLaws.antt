@@ -161,9 +161,9 @@ operation_is f l output ts =
       refl,
       record {
         operator_token = p.0.bytes;
-        operand_tokens_lem = k.taken;
+        operand_tokens = k.taken;
         are = ap token_bytes q ∙ ap (λ (ws : List (List ℕ)). p.0.bytes ∷ ws) (k.are ∙ ap (λ (us : List Token). k.taken ++ token_bytes us) z ∙ append-nil k.taken);
-        operator_spelt_lem = operator_is (edition_of f) p.0.bytes op o;
+        operator_spelt = operator_is (edition_of f) p.0.bytes op o;
         count = k.count;
         operands_spelt = k.spelt;
         type_rules = w;
@@ -173,11 +173,11 @@ operation_is f l output ts =
 operation_again : (f : File) (l : TextLine) → Each (SoundVariable (edition_of f)) f.variables → Distinct f.variables → (line : Line) (ts : List Token) → SpellsOperation (edition_of f) f.variables (token_bytes ts) line → read_operation f l line.output ts ≡ accepted line
 unfolding read_operation
 operation_again f l sound distinct line ts h =
-    let q = first_token ts h.operator_token h.operand_tokens_lem h.are in
+    let q = first_token ts h.operator_token h.operand_tokens h.are in
     let n : length q.1 ≡ arity line.operator = sym (length-map q.1 (λ t. t.bytes)) ∙ ap length q.4 ∙ h.count in
     let s : SpellsOperands f.variables (token_bytes q.1) (three line.operands) = rw q.4 h.operands_spelt in
     let r : read_operands f.variables l (arity line.operator) q.1 ≡ accepted (line.operands, []) = subst (λ k. read_operands f.variables l k q.1 ≡ accepted (line.operands, [])) n (operands_again (edition_of f) f.variables sound distinct l (three line.operands) q.1 s) in
-    rw (q.2, q.3, operator_again (edition_of f) h.operator_token line.operator h.operator_spelt_lem, r, h.type_rules)
+    rw (q.2, q.3, operator_again (edition_of f) h.operator_token line.operator h.operator_spelt, r, h.type_rules)
 
 -- ---- a `c` or `p` line
 abbrev pub form_letter : Form → ℕ

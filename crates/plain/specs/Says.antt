@@ -144,11 +144,11 @@ pub data SaysExpectation (es : List (List (List ℕ))) (expectation : Option ℕ
 -- an operator by its spelling, its operands, no more tokens; and the line keeps the type rules
 pub record SpellsOperation (e : Edition) (xs : List Variable) (tokens : List (List ℕ)) (l : Line) : Type 0 where
   pub operator_token : List ℕ
-  pub operand_tokens_lem : List (List ℕ)
-  pub are : tokens ≡ operator_token ∷ operand_tokens_lem
-  pub operator_spelt_lem : SpellsOperator e operator_token l.operator
-  pub count : length operand_tokens_lem ≡ arity l.operator
-  pub operands_spelt : SpellsOperands xs operand_tokens_lem (l.operands.first ∷ l.operands.second ∷ l.operands.third ∷ [])
+  pub operand_tokens : List (List ℕ)
+  pub are : tokens ≡ operator_token ∷ operand_tokens
+  pub operator_spelt : SpellsOperator e operator_token l.operator
+  pub count : length operand_tokens ≡ arity l.operator
+  pub operands_spelt : SpellsOperands xs operand_tokens (l.operands.first ∷ l.operands.second ∷ l.operands.third ∷ [])
   pub type_rules : well_typed xs l ≡ true
 
 -- "`c` takes an output (variable or constant), an operator, its operands; `p` an operator and its operands"

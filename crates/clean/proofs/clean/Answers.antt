@@ -1,14 +1,12 @@
-use Prim.Native.Nat.{ℕ, ◌≤◌}
+use Prim.Native.Nat.{◌≤◌}
 use mathlib.Core.Path.{◌≡◌, sym, ◌∙◌}
-use mathlib.Core.List.{List}
 use native.Mathlib.Omega.{arith}
 use lib.ListN.{length}
 use borrow.Author.Rules.{rules}
 use Rattle.refusal.specs.Result.{accepted}
-use Rattle.constraint.specs.File.{File}
 use Rattle.constraint.specs.Read.{read_file}
 use Rattle.constraint.proofs.SoundLaws.{read_short}
-use Rattle.store.specs.Tables.{Store, store_of}
+use Rattle.store.specs.Tables.{store_of}
 use Rattle.store.specs.Progress.{stored_file, HeadsInUseFit, InTables}
 use Rattle.store.proofs.SearchLaws.{searchable_none}
 use Rattle.printing.proofs.PlaceLaws.{front_length}

@@ -1,9 +1,6 @@
-use Prim.Native.Nat.{ℕ}
 use mathlib.Core.Path.{sym, ap, ◌∙◌}
-use mathlib.Core.List.{List}
 use native.Mathlib.Omega.{arith}
 use lib.ListN.{length}
-use borrow.Author.Rules.{rules}
 use Rattle.store.specs.Tables.{store_of}
 use Rattle.store.specs.Progress.{stored_file}
 use Rattle.printing.proofs.PlaceLaws.{front_length, front_is}

@@ -1,5 +1,4 @@
 use Rattle.report.specs.Text.{overall_text}
-use borrow.Author.Rules.{rules}
 use Rattle.report.proofs.put_overall.Goals as goal
 
 pub put_bytes-requires : goal.put_bytes-requires

@@ -1,5 +1,4 @@
 use Rattle.report.proofs.ReportLaws.{report_fits, report_written_lem}
-use borrow.Author.Rules.{rules}
 use Rattle.report.proofs.write_report.Goals as goal
 
 pub put_tallied-requires : goal.put_tallied-requires

@@ -1,13 +1,10 @@
-use Prim.Native.Nat.{◌-◌, ◌≤◌}
 use mathlib.Core.Path.{◌≡◌, sym, ap, ◌∙◌}
 use mathlib.Core.List.{List}
 use native.Mathlib.Omega.{arith}
 use borrow.Author.Rules.{rules}
 use Rattle.constraint.specs.File.{Variable}
-use Rattle.constraint.specs.Sound.{Each}
 use Rattle.store.specs.Tables.{tabulate, line_in, lines_in, AllHeadsFit}
 use Rattle.judge.specs.Judge.{judge}
-use Rattle.judge.proofs.OverallLaws.{Holds}
 use Rattle.writer.proofs.SatisfiesLaws.{holds_more, all_hold, one_fails}
 use Rattle.writer.proofs.satisfies.Goals as goal
 

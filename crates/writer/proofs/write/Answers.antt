@@ -1,15 +1,13 @@
 use mathlib.Core.Path.{◌≡◌, sym, ap, ◌∙◌}
-use mathlib.Core.List.{List}
 use mathlib.Core.Option.{none}
-use Prim.Native.Nat.{ℕ, ◌≤◌}
+use Prim.Native.Nat.{◌≤◌}
 use lib.ListN.{length, take}
 use lib.Seq.{length-take-le}
 use borrow.Author.Rules.{rules}
 use Rattle.refusal.specs.Result.{accepted}
-use Rattle.constraint.specs.File.{File}
 use Rattle.constraint.specs.Read.{read_file}
 use Rattle.constraint.proofs.SoundLaws.{read_short}
-use Rattle.store.specs.Tables.{place, Store, store_of}
+use Rattle.store.specs.Tables.{place, store_of}
 use Rattle.store.specs.Progress.{stored_file, HeadsInUseFit, InTables}
 use Rattle.store.proofs.LookupLaws.{variables_length}
 use Rattle.store.proofs.SearchLaws.{searchable_none}

@@ -1,5 +1,4 @@
 use native.Mathlib.Omega.{arith}
-use borrow.Author.Rules.{rules}
 use Rattle.store.specs.Tables.{variables_in}
 use Rattle.printing.proofs.OutputLaws.{text_refused, text_written}
 use Rattle.writer.specs.Text.{answer_text}

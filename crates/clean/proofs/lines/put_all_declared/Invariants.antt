@@ -1,7 +1,6 @@
 use Prim.Native.Nat.{◌-◌}
-use borrow.Author.Rules.{rules}
-use Rattle.printing.proofs.RowLaws.{Putting, putting_starts, putting_room, putting_more, putting_done}
-use Rattle.clean.proofs.LineLaws.{declaration_at, declarations_are}
+use Rattle.printing.proofs.RowLaws.{Putting}
+use Rattle.clean.proofs.LineLaws.{declaration_at}
 use Rattle.clean.proofs.lines.put_all_declared.Given as goal
 
 abbrev pub invariant-loop-i : goal.invariant-loop-i

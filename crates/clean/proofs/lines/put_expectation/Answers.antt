@@ -1,5 +1,4 @@
 use native.Mathlib.Omega.{arith}
-use borrow.Author.Rules.{rules}
 use Rattle.clean.proofs.LineLaws.{put_no_expectation, expectation_length, put_expectation}
 use Rattle.clean.proofs.lines.put_expectation.Goals as goal
 
@@ -13,7 +12,7 @@ pub returns-in-NoExpectation : goal.returns-in-NoExpectation
 returns-in-NoExpectation c = rw c.in-NoExpectation.is (put_no_expectation _ _)
 
 pub returns-in-HasExpectation : goal.returns-in-HasExpectation
-returns-in-HasExpectation c =     rw c.in-HasExpectation.is (put_expectation c.in-HasExpectation.n (rw c.in-HasExpectation.is at c.requires) c.put_bytes-number.ensures c.put_digits.ensures)
+returns-in-HasExpectation c = rw c.in-HasExpectation.is (put_expectation c.in-HasExpectation.n (rw c.in-HasExpectation.is at c.requires) c.put_bytes-number.ensures c.put_digits.ensures)
 
 -- TODO old:
 -- slice-aggregate-put-bytes : tie.Need-slice-aggregate-put-bytes

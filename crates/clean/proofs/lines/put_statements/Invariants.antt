@@ -1,10 +1,8 @@
 use Prim.Native.Nat.{◌-◌}
-use native.Mathlib.Omega.{arith}
-use borrow.Author.Rules.{rules}
 use Rattle.edition.specs.Edition.{edition10}
 use Rattle.store.specs.Tables.{variables_in}
-use Rattle.printing.proofs.RowLaws.{Putting, putting_starts, putting_room, putting_more, putting_done}
-use Rattle.clean.proofs.LineLaws.{statement_at, statements_are}
+use Rattle.printing.proofs.RowLaws.{Putting}
+use Rattle.clean.proofs.LineLaws.{statement_at}
 use Rattle.clean.proofs.lines.put_statements.Given as goal
 
 abbrev pub invariant-loop-k : goal.invariant-loop-k

@@ -1,5 +1,4 @@
 use native.Mathlib.Omega.{arith}
-use borrow.Author.Rules.{rules}
 use Rattle.clean.proofs.LineLaws.{version_length, put_version}
 use Rattle.clean.proofs.lines.put_version.Goals as goal
 

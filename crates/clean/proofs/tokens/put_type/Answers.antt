@@ -1,5 +1,4 @@
 use native.Mathlib.Omega.{arith}
-use borrow.Author.Rules.{rules}
 use Rattle.clean.proofs.TokenLaws.{type_length, put_type}
 use Rattle.clean.proofs.tokens.put_type.Goals as goal
 

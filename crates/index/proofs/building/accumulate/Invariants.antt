@@ -1,9 +1,5 @@
-use Prim.Native.Nat.{◌+◌, ◌-◌, ◌≤◌}
-use mathlib.Core.Path.{◌≡◌, ◌∙◌}
-use native.Mathlib.Omega.{arith}
-use borrow.Author.Rules.{rules}
-use Rattle.index.specs.Internal.{entry_of}
-use Rattle.index.proofs.TallyLaws.{Summed, summed_start, summed_next, sum_below, sum_next}
+use Prim.Native.Nat.{◌-◌, ◌≤◌}
+use Rattle.index.proofs.TallyLaws.{Summed}
 use Rattle.index.proofs.building.accumulate.Given as goal
 
 -- `accumulate` meets its contract. The loop's invariant: the first i counts are turned into sums, and those behind them are as they were.

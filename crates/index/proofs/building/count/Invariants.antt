@@ -1,15 +1,10 @@
 use Prim.Native.Nat.{ℕ, ◌-◌, ◌≤◌, ◌<◌}
 use mathlib.Core.Path.{◌≡◌}
-use native.Mathlib.Omega.{arith}
 use lib.ListN.{length, get_or}
-use borrow.Author.Rules.{rules}
 use Rattle.edition.specs.Edition.{max_variables}
 use Rattle.refusal.specs.Lists.{how_many}
-use Rattle.refusal.proofs.ManyLaws.{many_most}
-use Rattle.store.specs.Tables.{tabulate, lines_in}
-use Rattle.store.proofs.LineTableLaws.{lines_length}
+use Rattle.store.specs.Tables.{lines_in}
 use Rattle.index.specs.Select.{names}
-use Rattle.index.proofs.CountLaws.{many_next}
 use Rattle.index.proofs.building.count.Given as goal
 
 -- `count` meets its contract. The loop's invariant: the counts are those of the first k lines.

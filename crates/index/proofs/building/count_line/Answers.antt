@@ -1,6 +1,5 @@
 use Prim.Native.Nat.{◌+◌}
 use native.Mathlib.Omega.{arith}
-use borrow.Author.Rules.{rules}
 use Rattle.index.specs.Internal.{CountsAtMost}
 use Rattle.index.proofs.TallyLaws.{added_most}
 use Rattle.index.proofs.building.count_line.Goals as goal
@@ -27,4 +26,4 @@ count_one-requires-4 c =
     (c.count_one-3.ensures.0, λ h. omega (arith, most-3 _ h))
 
 pub returns : goal.returns
-returns c =     (c.count_one-4.ensures.0, λ q h. omega (arith, c.variables_of-line.ensures q h, c.count_one.ensures.1 q h, c.count_one-2.ensures.1 q h, c.count_one-3.ensures.1 q h, c.count_one-4.ensures.1 q h))
+returns c = (c.count_one-4.ensures.0, λ q h. omega (arith, c.variables_of-line.ensures q h, c.count_one.ensures.1 q h, c.count_one-2.ensures.1 q h, c.count_one-3.ensures.1 q h, c.count_one-4.ensures.1 q h))

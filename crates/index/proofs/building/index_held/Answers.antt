@@ -2,7 +2,6 @@ use Prim.Native.Nat.{ℕ, ◌<◌}
 use mathlib.Core.Path.{◌≡◌, refl, ◌∙◌}
 use native.Mathlib.Omega.{arith}
 use lib.ListN.{get_or, get_or-replicate}
-use borrow.Author.Rules.{rules}
 use Rattle.edition.specs.Edition.{max_variables}
 use Rattle.index.specs.Index.{own_start}
 use Rattle.index.specs.Internal.{held_file}
@@ -16,7 +15,7 @@ pub count-requires : goal.count-requires
 count-requires c = (refl, c.requires.0, c.requires.1, c.requires.3, λ q h. get_or-replicate max_variables q 0 0 h)
 
 pub accumulate-end-requires : goal.accumulate-end-requires
-accumulate-end-requires c =     (c.count.ensures.0, c.requires.2, counts_most c.args.heads.now c.args.bodies.now c.count.new.counts c.args.m c.count.ensures.1 c.args.n c.requires.2 c.requires.3)
+accumulate-end-requires c = (c.count.ensures.0, c.requires.2, counts_most c.args.heads.now c.args.bodies.now c.count.new.counts c.args.m c.count.ensures.1 c.args.n c.requires.2 c.requires.3)
 
 pub returns-then-lists-end : goal.returns-then-lists-end
 returns-then-lists-end c f v l =

@@ -1,8 +1,5 @@
 use Prim.Native.Nat.{◌-◌, ◌≤◌}
-use mathlib.Core.Path.{◌≡◌}
-use native.Mathlib.Omega.{arith}
-use borrow.Author.Rules.{rules}
-use Rattle.index.proofs.FillLaws.{Filled, filled_start, filled_room, filled_next, filled_end}
+use Rattle.index.proofs.FillLaws.{Filled}
 use Rattle.index.proofs.building.list_all.Given as goal
 
 -- `list_all` meets its contract. The loop's invariant: the lists are filled as far as the first k lines fill them.

@@ -3,7 +3,6 @@ use mathlib.Core.Path.{refl}
 use native.Mathlib.Omega.{arith}
 use lib.ListN.{length, get_or}
 use borrow.Author.Tests.{eq-eqb}
-use borrow.Author.Rules.{rules}
 use Rattle.index.specs.Claims.{max_listed}
 use Rattle.index.proofs.ListingLaws.{listed_one, listed_none}
 use Rattle.index.proofs.building.list_one.Goals as goal

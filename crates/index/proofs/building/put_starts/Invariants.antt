@@ -1,11 +1,7 @@
 use Prim.Native.Nat.{◌-◌, ◌≤◌}
-use mathlib.Core.Path.{◌≡◌, refl, ◌∙◌}
+use mathlib.Core.Path.{◌≡◌}
 use mathlib.Core.List.{◌++◌}
-use native.Mathlib.Omega.{arith}
-use lib.ListN.{length, take, drop, length-set}
-use borrow.Author.Rules.{rules}
-use Rattle.store.proofs.TableLaws.{row_more}
-use Rattle.index.proofs.TallyLaws.{front_last}
+use lib.ListN.{length, take, drop}
 use Rattle.index.proofs.building.put_starts.Given as goal
 
 -- `put_starts` meets its contract. The loop's invariant: the first i numbers stand in front of the table.

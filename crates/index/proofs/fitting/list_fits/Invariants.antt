@@ -1,11 +1,8 @@
 use Prim.Native.Nat.{◌-◌, ◌<◌, ◌^◌, min}
-use mathlib.Core.Path.{◌≡◌, sym, ◌∙◌}
-use native.Mathlib.Nat.{min-le_right}
-use native.Mathlib.Omega.{arith}
+use mathlib.Core.Path.{◌≡◌}
 use lib.ListN.{length, take, drop}
 use Rattle.index.specs.AnyIndex.{list_fits}
-use Rattle.index.proofs.AlongLaws.{list_from, list_first, list_low, list_next, list_end}
-use borrow.Author.Rules.{rules}
+use Rattle.index.proofs.AlongLaws.{list_from}
 use Rattle.index.proofs.fitting.list_fits.Given as goal
 
 -- `list_fits` meets its contract. The loop's invariant: whether the list fits is whether the numbers that are left do, behind the last one seen.

@@ -1,10 +1,8 @@
-use Prim.Native.Nat.{◌+◌, ◌-◌, ◌≤◌}
-use mathlib.Core.Path.{◌≡◌, sym, ◌∙◌}
-use native.Mathlib.Omega.{arith}
+use Prim.Native.Nat.{◌-◌, ◌≤◌}
+use mathlib.Core.Path.{◌≡◌}
 use Rattle.index.specs.Index.{index_of}
 use Rattle.index.specs.AnyIndex.{lists_fit}
-use Rattle.index.proofs.AlongLaws.{lists_from, lists_first, lists_broken, lists_next, lists_end}
-use borrow.Author.Rules.{rules}
+use Rattle.index.proofs.AlongLaws.{lists_from}
 use Rattle.index.proofs.fitting.lists_fit.Given as goal
 
 -- `lists_fit` meets its contract. The loop's invariant: whether all lists fit is whether those that are left do.

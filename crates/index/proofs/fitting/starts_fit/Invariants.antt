@@ -1,10 +1,8 @@
 use Prim.Native.Nat.{◌+◌, ◌-◌, ◌≤◌}
-use mathlib.Core.Path.{◌≡◌, sym, ◌∙◌}
-use native.Mathlib.Omega.{arith}
+use mathlib.Core.Path.{◌≡◌}
 use Rattle.index.specs.Index.{index_of}
 use Rattle.index.specs.AnyIndex.{starts_fit}
-use Rattle.index.proofs.AlongLaws.{starts_from, starts_missing, starts_first, starts_fall, starts_pass, starts_next, starts_end}
-use borrow.Author.Rules.{rules}
+use Rattle.index.proofs.AlongLaws.{starts_from}
 use Rattle.index.proofs.fitting.starts_fit.Given as goal
 
 -- `starts_fit` meets its contract. The loop's invariant: whether the starts fit is whether those that are left do, behind the last one seen.

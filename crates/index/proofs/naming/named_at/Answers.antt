@@ -1,4 +1,3 @@
-use borrow.Author.Rules.{rules}
 use Rattle.index.proofs.NamesLaws.{named_at}
 use Rattle.index.proofs.naming.named_at.Goals as goal
 

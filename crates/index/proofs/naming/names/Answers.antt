@@ -1,4 +1,3 @@
-use borrow.Author.Rules.{rules}
 use Rattle.index.proofs.NamesLaws.{names_by}
 use Rattle.index.proofs.naming.names.Goals as goal
 

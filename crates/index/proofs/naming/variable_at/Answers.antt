@@ -1,6 +1,5 @@
 use mathlib.Core.Path.{◌≡◌, sym, ◌∙◌}
 use lib.Dec.{leb}
-use borrow.Author.Rules.{rules}
 use Rattle.store.specs.Tables.{variable_mark, head_at}
 use Rattle.index.proofs.NamesLaws.{variable_there, variable_nowhere}
 use Rattle.index.proofs.naming.variable_at.Goals as goal

@@ -1,12 +1,9 @@
 use Prim.Native.Nat.{◌-◌, ◌≤◌}
-use mathlib.Core.Path.{◌≡◌, refl, sym, ◌∙◌}
+use mathlib.Core.Path.{◌≡◌}
 use lib.Dec.{ltb}
-use lib.ListN.{length, get_or, drop}
-use borrow.Author.Rules.{rules}
-use borrow.Author.Tests.{lt-ltb, le-ltb}
+use lib.ListN.{length, drop}
 use Rattle.refusal.specs.Lists.{first_from}
 use Rattle.judge.specs.Judge.{verdict_disregarded}
-use Rattle.refusal.proofs.ListLaws.{first_here, first_later, first_nowhere}
 use Rattle.moves.proofs.admission.first_above.Given as goal
 
 -- `first_above` meets its contract. The loop's invariant: the first byte that is no verdict is the first of those that are left.

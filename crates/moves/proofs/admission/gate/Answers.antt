@@ -2,13 +2,11 @@ use Prim.Native.Nat.{ℕ, ◌≤◌}
 use mathlib.Core.Path.{◌≡◌, refl, sym, ◌∙◌}
 use mathlib.Core.List.{List, []}
 use lib.ListN.{length}
-use borrow.Author.Rules.{rules}
 use Rattle.refusal.specs.Result.{accepted, gate_result}
 use Rattle.constraint.specs.declared.Line.{Line}
-use Rattle.constraint.specs.File.{File}
 use Rattle.store.specs.Tables.{variables_in, lines_in}
 use Rattle.store.proofs.LineTableLaws.{lines_length}
-use Rattle.judge.specs.InUse.{Tables, tables_of, room_of, tables_room}
+use Rattle.judge.specs.InUse.{tables_of, room_of, tables_room}
 use Rattle.judge.proofs.RoomLaws.{accepted_room}
 use Rattle.index.specs.Internal.{file_of}
 use Rattle.moves.specs.Internal.{numbers_fit}

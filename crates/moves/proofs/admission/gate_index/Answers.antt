@@ -1,4 +1,3 @@
-use borrow.Author.Rules.{rules}
 use Rattle.moves.proofs.admission.gate_index.Goals as goal
 
 pub returns-in-NoFault : goal.returns-in-NoFault

@@ -1,8 +1,6 @@
 use mathlib.Core.Path.{◌≡◌, sym, ◌∙◌}
 use mathlib.Core.Bool.{true}
 use lib.Seq.{length-take-le}
-use borrow.Author.Rules.{rules}
-use borrow.Author.Tests.{not-true, not-false}
 use Rattle.arithmetic.specs.Rules.{fits}
 use Rattle.moves.proofs.GateLaws.{file_sized, variable_missing, value_too_large, values_unfit, verdicts_unfit, numbers_pass}
 use Rattle.moves.proofs.admission.gate_numbers.Goals as goal
@@ -14,7 +12,7 @@ pub returns-then-not-fits : goal.returns-then-not-fits
 returns-then-not-fits c file ls e = rw c.bar-then-not-fits.ensures (value_too_large _ _ _ (file_sized file _ _ ls _ e) _ _ _ _ c.if-n-i.false _ (sym (c.width_of.ensures file)) (sym c.fits.ensures ∙ c.if-not-fits.true))
 
 pub slice_bounds-first_above-end : goal.slice_bounds-first_above-end
-slice_bounds-first_above-end c =     sym (length-take-le _ c.args.verdicts.now c.requires.3)
+slice_bounds-first_above-end c = sym (length-take-le _ c.args.verdicts.now c.requires.3)
 
 pub returns-in-At : goal.returns-in-At
 returns-in-At c file ls e =

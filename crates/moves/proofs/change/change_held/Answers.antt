@@ -4,9 +4,7 @@ use mathlib.Core.List.{List, []}
 use native.Mathlib.Omega.{arith}
 use lib.ListN.{length, set, length-set}
 use lib.Seq.{length-take-le}
-use borrow.Author.Rules.{rules}
 use Rattle.refusal.specs.Result.{gate_result}
-use Rattle.constraint.specs.File.{File}
 use Rattle.store.specs.Tables.{variables_in, lines_in}
 use Rattle.store.proofs.LineTableLaws.{lines_length}
 use Rattle.judge.specs.InUse.{tables_of}

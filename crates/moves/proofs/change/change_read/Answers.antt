@@ -1,11 +1,8 @@
-use Prim.Native.Nat.{ℕ}
 use mathlib.Core.Path.{◌≡◌, ◌∙◌}
-use mathlib.Core.List.{List}
 use borrow.Author.Rules.{rules}
 use Rattle.refusal.specs.Result.{accepted}
 use Rattle.constraint.specs.Read.{read_file}
-use Rattle.store.specs.declared.Progress.{Progress}
-use Rattle.store.specs.Tables.{Store, store_of}
+use Rattle.store.specs.Tables.{store_of}
 use Rattle.store.specs.Progress.{stored_file, InTables, HeadsInUseFit}
 use Rattle.store.proofs.SearchLaws.{searchable_none}
 use Rattle.judge.specs.InUse.{tables_of}

@@ -1,4 +1,3 @@
-use borrow.Author.Rules.{rules}
 use Rattle.moves.proofs.change.changed.Goals as goal
 
 pub returns : goal.returns

@@ -1,21 +1,18 @@
-use Prim.Native.Nat.{◌-◌, ◌≤◌}
+use Prim.Native.Nat.{◌≤◌}
 use mathlib.Core.Path.{◌≡◌}
-use mathlib.Core.List.{List}
 use native.Mathlib.Omega.{arith}
-use lib.ListN.{length}
 use borrow.Author.Rules.{rules}
-use Rattle.constraint.specs.File.{Variable}
-use Rattle.store.specs.Tables.{line_in, AllHeadsFit}
+use Rattle.store.specs.Tables.{line_in}
 use Rattle.index.specs.Select.{names}
-use Rattle.moves.specs.Internal.{columns_of, judged_in}
-use Rattle.moves.proofs.RenewLaws.{NamedTurn, renewed_most, named_start, named_next, named_end}
+use Rattle.moves.specs.Internal.{judged_in}
+use Rattle.moves.proofs.RenewLaws.{renewed_most, named_start, named_next, named_end}
 use Rattle.moves.proofs.renewing.renew.Goals as goal
 
 pub loop-k-init : goal.loop-k-init
 loop-k-init c = (search rules, search rules, search rules, search rules, search rules, λ xs f. named_start xs _ _ _ _ _ _ (omega arith, omega arith))
 
 pub renew_named-one-requires : goal.renew_named-one-requires
-renew_named-one-requires c =     (omega arith, omega arith, c.requires.1, c.requires.2, omega arith, c.requires.5 _ c.loop-k-test.true)
+renew_named-one-requires c = (omega arith, omega arith, c.requires.1, c.requires.2, omega arith, c.requires.5 _ c.loop-k-test.true)
 
 pub overflow_add-named : goal.overflow_add-named
 overflow_add-named c =
@@ -46,5 +43,5 @@ pub shape_of-results : goal.shape_of-results
 shape_of-results c = c.loop-k.invariant.2
 
 pub returns : goal.returns
-returns c xs f =     let e : c.loop-k.k ≡ c.args.m = omega arith in
+returns c xs f = let e : c.loop-k.k ≡ c.args.m = omega arith in
     named_end xs _ _ _ _ _ _ _ _ _ (rw e at (c.loop-k.invariant.5 xs f))

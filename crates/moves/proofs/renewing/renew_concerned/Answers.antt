@@ -1,6 +1,5 @@
 use Prim.Native.Nat.{◌+◌}
 use native.Mathlib.Omega.{arith}
-use borrow.Author.Rules.{rules}
 use Rattle.index.specs.Index.{index_of}
 use Rattle.moves.specs.Internal.{ListFitting}
 use Rattle.moves.proofs.RenewLaws.{part_listed, part_fits}

@@ -1,6 +1,5 @@
-use borrow.Author.Rules.{rules}
 use Rattle.moves.proofs.renewing.renew_line.Goals as goal
 
 pub returns : goal.returns
-returns c xs f =     let fresh = c.judge_line-judged.ensures xs f in
+returns c xs f = let fresh = c.judge_line-judged.ensures xs f in
     (rw fresh at c.differ.ensures, rw fresh)

@@ -1,13 +1,10 @@
 use Prim.Native.Nat.{◌-◌, ◌≤◌}
 use mathlib.Core.Path.{◌≡◌, refl}
-use mathlib.Core.List.{List}
 use native.Mathlib.Omega.{arith}
 use lib.ListN.{length, get_or}
 use borrow.Author.Rules.{rules}
-use Rattle.constraint.specs.File.{Variable}
-use Rattle.store.specs.Tables.{AllHeadsFit}
-use Rattle.moves.specs.Internal.{columns_of, judged_in}
-use Rattle.moves.proofs.RenewLaws.{ListedTurn, differs_most, listed_place, listed_start, listed_next, listed_end}
+use Rattle.moves.specs.Internal.{judged_in}
+use Rattle.moves.proofs.RenewLaws.{differs_most, listed_place, listed_start, listed_next, listed_end}
 use Rattle.moves.proofs.renewing.renew_listed.Goals as goal
 
 pub loop-k-init : goal.loop-k-init
@@ -52,6 +49,6 @@ pub shape_of-results : goal.shape_of-results
 shape_of-results c = c.loop-k.invariant.2
 
 pub returns : goal.returns
-returns c xs f =     let s = c.args in
+returns c xs f = let s = c.args in
     let e : c.loop-k.k ≡ length s.list.now = omega arith in
     listed_end xs _ _ _ _ _ s.list.now _ _ (rw e at (c.loop-k.invariant.4 xs f))

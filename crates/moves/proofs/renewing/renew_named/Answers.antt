@@ -1,6 +1,5 @@
 use mathlib.Core.Path.{◌≡◌, sym, ◌∙◌}
-use mathlib.Core.Bool.{Bool, true, false}
-use borrow.Author.Rules.{rules}
+use mathlib.Core.Bool.{true, false}
 use Rattle.store.specs.Tables.{line_in}
 use Rattle.index.specs.Select.{names}
 use Rattle.moves.proofs.renewing.renew_named.Goals as goal

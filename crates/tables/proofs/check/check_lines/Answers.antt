@@ -1,20 +1,17 @@
-use Prim.Native.Nat.{ℕ, ◌≤◌}
+use Prim.Native.Nat.{◌≤◌}
 use mathlib.Core.Path.{◌≡◌, refl, sym, ap, ◌∙◌}
-use mathlib.Core.List.{List}
 use native.Mathlib.Omega.{arith}
 use lib.ListN.{length, take}
 use lib.Seq.{length-take-le}
 use borrow.Author.Rules.{rules}
 use Rattle.refusal.specs.Result.{accepted, gate_result}
-use Rattle.store.specs.declared.Progress.{Progress}
-use Rattle.constraint.specs.File.{File}
 use Rattle.constraint.specs.Read.{read_file}
 use Rattle.store.specs.Names.{Searchable}
-use Rattle.store.specs.Tables.{Store, store_of}
+use Rattle.store.specs.Tables.{store_of}
 use Rattle.store.specs.Progress.{stored_file, InTables, HeadsInUseFit}
 use Rattle.store.proofs.SearchLaws.{searchable_none}
 use Rattle.answer.specs.Read.{read_answer}
-use Rattle.judge.specs.InUse.{Tables, tables_of, room_of, tables_room}
+use Rattle.judge.specs.InUse.{tables_of, room_of, tables_room}
 use Rattle.judge.proofs.RoomLaws.{accepted_room}
 use Rattle.tables.specs.Check.{checked}
 use Rattle.tables.proofs.CheckLaws.{refused_constraint, refused_answer, refused_room, checked_row, variables_held, lines_held, answer_fits_lines, counts_lines, tables_filled}
@@ -93,7 +90,7 @@ slice_bounds-overall-end-in-Pass c =
     sym (length-take-le _ _ h)
 
 pub returns-in-Stop : goal.returns-in-Stop
-returns-in-Stop c =     let a = c.args in
+returns-in-Stop c = let a = c.args in
     (ap (checked (tables_of a.values.now a.verdicts.now a.results.now)) (refused_constraint a.constraint.now a.answer.now _ c.in-Stop.r (rw c.in-Stop.is at c.read.ensures.0)), tt)
 
 pub returns-in-Fault : goal.returns-in-Fault

@@ -1,11 +1,8 @@
-use Prim.Native.Nat.{◌+◌, ◌-◌, ◌≤◌}
-use mathlib.Core.Path.{◌≡◌}
 use native.Mathlib.Omega.{arith}
 use lib.Dec.{eqb}
-use lib.ListN.{length, get_or, drop}
+use lib.ListN.{get_or}
 use borrow.Author.Rules.{rules}
 use borrow.Author.Tests.{eq-eqb, ne_eqb}
-use Rattle.refusal.specs.Lists.{how_many}
 use Rattle.refusal.proofs.ManyLaws.{many_here, many_later, many_nowhere}
 use Rattle.tables.proofs.reports.count.Goals as goal
 use Rattle.tables.proofs.reports.count.Goals.{then-v-verdicts, else-v-verdicts}
@@ -14,7 +11,7 @@ pub loop-i-init : goal.loop-i-init
 loop-i-init c = (search rules, search rules, search rules)
 
 pub loop-i-preserved : goal.loop-i-preserved
-loop-i-preserved c =     let i = c.loop-i.i in
+loop-i-preserved c = let i = c.loop-i.i in
     let v = c.args.v in
     let vs = c.args.verdicts.now in
     elim c.if-v-verdicts.branch [
@@ -23,5 +20,5 @@ loop-i-preserved c =     let i = c.loop-i.i in
     ]
 
 pub returns : goal.returns
-returns c =     let e = many_nowhere (eqb c.args.v) c.args.verdicts.now c.loop-i.i c.loop-i-test.false in
+returns c = let e = many_nowhere (eqb c.args.v) c.args.verdicts.now c.loop-i.i c.loop-i-test.false in
     omega arith

@@ -1,13 +1,8 @@
 use Prim.Native.Nat.{◌+◌, ◌-◌, ◌≤◌}
 use mathlib.Core.Path.{◌≡◌}
-use mathlib.Core.Logic.{⊎_elim}
-use native.Mathlib.Omega.{arith}
 use lib.Dec.{eqb}
-use lib.ListN.{length, get_or, drop}
-use borrow.Author.Rules.{rules}
-use borrow.Author.Tests.{eq-eqb, ne_eqb}
+use lib.ListN.{length, drop}
 use Rattle.refusal.specs.Lists.{how_many}
-use Rattle.refusal.proofs.ManyLaws.{many_here, many_later, many_nowhere}
 use Rattle.tables.proofs.reports.count.Given as goal
 
 -- `count` meets its contract. The loop's invariant: with how many are left, those counted are all.

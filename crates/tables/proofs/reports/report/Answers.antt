@@ -2,7 +2,6 @@ use Prim.Native.Nat.{◌≤◌}
 use mathlib.Core.Path.{◌≡◌, sym}
 use lib.ListN.{length, take}
 use lib.Seq.{length-take-le}
-use borrow.Author.Rules.{rules}
 use Rattle.tables.specs.declared.Report.TheVariants.{Tallied}
 use Rattle.tables.specs.Report.{tally_of, report_outcome}
 use Rattle.tables.proofs.ReportLaws.{report_tallied, report_refused}
@@ -30,4 +29,4 @@ returns-in-Done c =
     rw c.tally.ensures tallied.1
 
 pub returns-in-Stopped : goal.returns-in-Stopped
-returns-in-Stopped c =     report_refused c.args.constraint.now c.args.answer.now _ _ _ c.in-Stopped.r (rw c.in-Stopped.is at c.check_lines.ensures).0
+returns-in-Stopped c = report_refused c.args.constraint.now c.args.answer.now _ _ _ c.in-Stopped.r (rw c.in-Stopped.is at c.check_lines.ensures).0

@@ -1,4 +1,3 @@
-use borrow.Author.Rules.{rules}
 use Rattle.writer.proofs.AnswerLaws.{answer_alone, answer_more}
 use Rattle.writer.proofs.answers.answer_length.Goals as goal
 

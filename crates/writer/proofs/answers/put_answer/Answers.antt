@@ -1,7 +1,6 @@
 use mathlib.Core.Path.{ap}
 use native.Mathlib.Omega.{arith}
 use lib.ListN.{length}
-use borrow.Author.Rules.{rules}
 use Rattle.writer.proofs.AnswerLaws.{answer_length, put_answer}
 use Rattle.writer.proofs.answers.put_answer.Goals as goal
 

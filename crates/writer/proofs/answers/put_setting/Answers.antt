@@ -1,7 +1,6 @@
 use mathlib.Core.Path.{◌≡◌}
 use native.Mathlib.Omega.{arith}
 use lib.ListN.{length, take, drop}
-use borrow.Author.Rules.{rules}
 use Rattle.store.specs.Tables.{name_start, name_length}
 use Rattle.writer.proofs.SettingLaws.{setting_length, put_setting}
 use Rattle.writer.proofs.answers.put_setting.Goals as goal

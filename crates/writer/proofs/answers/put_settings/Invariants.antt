@@ -1,8 +1,6 @@
 use Prim.Native.Nat.{◌-◌}
-use native.Mathlib.Omega.{arith}
-use borrow.Author.Rules.{rules}
-use Rattle.printing.proofs.RowLaws.{Putting, putting_starts, putting_room, putting_more, putting_done}
-use Rattle.writer.proofs.SettingLaws.{setting_at, settings_are}
+use Rattle.printing.proofs.RowLaws.{Putting}
+use Rattle.writer.proofs.SettingLaws.{setting_at}
 use Rattle.writer.proofs.answers.put_settings.Given as goal
 
 abbrev pub invariant-loop-i : goal.invariant-loop-i

@@ -1,5 +1,4 @@
 use native.Mathlib.Omega.{arith}
-use borrow.Author.Rules.{rules}
 use Rattle.writer.proofs.AnswerLaws.{put_no_values, values_length, put_values}
 use Rattle.writer.proofs.answers.put_values.Goals as goal
 

@@ -1,5 +1,4 @@
 use native.Mathlib.Omega.{arith}
-use borrow.Author.Rules.{rules}
 use Rattle.printing.proofs.DigitLaws.{digits_count}
 use Rattle.printing.proofs.PartLaws.{part_length}
 use Rattle.writer.proofs.SettingLaws.{setting_length}

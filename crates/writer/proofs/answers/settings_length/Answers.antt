@@ -1,6 +1,5 @@
-use Prim.Native.Nat.{◌+◌, ◌-◌}
+use Prim.Native.Nat.{◌+◌}
 use native.Mathlib.Omega.{arith}
-use borrow.Author.Rules.{rules}
 use Rattle.writer.proofs.LoopLaws.{Measuring, measuring_starts, measuring_more, measuring_done}
 use Rattle.writer.proofs.SettingLaws.{settings_are}
 use Rattle.writer.proofs.answers.settings_length.Goals as goal

@@ -1,8 +1,5 @@
-use Prim.Native.Nat.{◌+◌, ◌-◌}
-use native.Mathlib.Omega.{arith}
-use borrow.Author.Rules.{rules}
-use Rattle.writer.proofs.LoopLaws.{Measuring, measuring_starts, measuring_more, measuring_done}
-use Rattle.writer.proofs.SettingLaws.{settings_are}
+use Prim.Native.Nat.{◌-◌}
+use Rattle.writer.proofs.LoopLaws.{Measuring}
 use Rattle.writer.proofs.answers.settings_length.Given as goal
 
 abbrev pub invariant-loop-i : goal.invariant-loop-i
