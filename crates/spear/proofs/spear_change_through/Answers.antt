@@ -1,6 +1,5 @@
 use mathlib.Core.Path.{ap}
 use Rattle.spear.specs.Pack.{packed_change}
-use borrow.Author.Rules.{rules}
 use Rattle.spear.proofs.spear_change_through.Goals as goal
 
 pub returns : goal.returns

@@ -1,6 +1,5 @@
 use mathlib.Core.Path.{ap, ◌∙◌}
 use Rattle.spear.specs.Code.{code_of}
-use borrow.Author.Rules.{rules}
 use Rattle.spear.proofs.spear_check.Goals as goal
 
 pub returns : goal.returns

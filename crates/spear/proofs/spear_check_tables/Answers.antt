@@ -1,6 +1,5 @@
 use mathlib.Core.Path.{ap}
 use Rattle.spear.specs.Pack.{packed_check}
-use borrow.Author.Rules.{rules}
 use Rattle.spear.proofs.spear_check_tables.Goals as goal
 
 pub returns : goal.returns

@@ -1,5 +1,4 @@
 use mathlib.Core.Path.{ap}
-use borrow.Author.Rules.{rules}
 use Rattle.spear.specs.Pack.{packed_write}
 use Rattle.spear.proofs.spear_write.Goals as goal
 

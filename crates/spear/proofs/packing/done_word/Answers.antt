@@ -1,5 +1,4 @@
 use mathlib.Core.Path.{refl}
-use borrow.Author.Rules.{rules}
 use Rattle.spear.specs.Pack.{done_word}
 use Rattle.spear.proofs.packing.done_word.Goals as goal
 

@@ -1,4 +1,3 @@
-use borrow.Author.Rules.{rules}
 use Rattle.spear.proofs.packing.pack_change.Goals as goal
 
 pub returns-in-Changed : goal.returns-in-Changed

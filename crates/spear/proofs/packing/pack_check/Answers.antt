@@ -1,4 +1,3 @@
-use borrow.Author.Rules.{rules}
 use Rattle.spear.proofs.packing.pack_check.Goals as goal
 
 pub returns-in-Checked : goal.returns-in-Checked

@@ -1,4 +1,3 @@
-use borrow.Author.Rules.{rules}
 use Rattle.spear.proofs.packing.pack_index.Goals as goal
 
 pub returns-in-Indexed : goal.returns-in-Indexed

@@ -1,4 +1,3 @@
-use borrow.Author.Rules.{rules}
 use Rattle.spear.proofs.packing.pack_refusal.Goals as goal
 
 pub returns : goal.returns

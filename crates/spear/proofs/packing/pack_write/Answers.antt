@@ -1,4 +1,3 @@
-use borrow.Author.Rules.{rules}
 use Rattle.spear.proofs.packing.pack_write.Goals as goal
 
 pub returns-in-Written : goal.returns-in-Written

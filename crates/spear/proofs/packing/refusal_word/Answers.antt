@@ -1,6 +1,5 @@
 use mathlib.Core.Path.{refl}
 use Rattle.spear.specs.Pack.{refusal_word}
-use borrow.Author.Rules.{rules}
 use Rattle.spear.proofs.packing.refusal_word.Goals as goal
 
 pub returns : goal.returns

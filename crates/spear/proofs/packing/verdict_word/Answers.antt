@@ -1,6 +1,5 @@
 use mathlib.Core.Path.{refl}
 use Rattle.spear.specs.Pack.{verdict_word}
-use borrow.Author.Rules.{rules}
 use Rattle.spear.proofs.packing.verdict_word.Goals as goal
 
 pub returns : goal.returns
