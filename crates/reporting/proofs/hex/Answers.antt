@@ -1,4 +1,4 @@
-use Rattle.std.proofs.Common.{◌≡◌, sym, ◌∙◌, arith}
+use Rattle.std.proofs.Common.{sym, ◌∙◌, arith}
 use Rattle.reporting.proofs.HexLaws.{appended, hex_turn, hex_end}
 use Rattle.reporting.proofs.hex.Goals as goal
 
