@@ -36,15 +36,13 @@ const DIGITS: usize = TABLE * VALUE;
 // The values that stand in digits, as many as there are.
 fn parse(digits: &[u8], table: &mut [u64]) {
     let mut at = 0;
-    let mut i = 0;
-    while i < table.len() {
+    for entry in table.iter_mut() {
         if digits.len() - at < VALUE {
             return;
         }
         let end = at + VALUE;
-        table[i] = reporting::hex(digits, at, end);
+        *entry = reporting::hex(digits, at, end);
         at = end;
-        i += 1;
     }
 }
 
