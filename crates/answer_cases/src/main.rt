@@ -6,9 +6,9 @@
 #![tactic(auto)]
 
 use answer::ReadReply;
-use libc::STDOUT_FILENO;
 use printing::WriteReply;
 use reporting::cases::next_both;
+use std::io::{self, BufReader, BufWriter, Read, Write};
 
 const HEADER: usize = 36;
 
@@ -36,82 +36,102 @@ const DIGITS: usize = TABLE * VALUE;
 // The values that stand in digits, as many as there are.
 fn parse(digits: &[u8], table: &mut [u64]) {
     let mut at = 0;
-    let mut i = 0;
-    while i < table.len() {
+    for entry in table.iter_mut() {
         if digits.len() - at < VALUE {
             return;
         }
         let end = at + VALUE;
-        table[i] = reporting::hex(digits, at, end);
+        *entry = reporting::hex(digits, at, end);
         at = end;
-        i += 1;
     }
 }
 
 // Loads the files of a case, and answers it; false where the input is too short.
-fn read_case(constraint: &mut [u8], answer: &mut [u8], table: &mut [u64]) -> bool {
-    if !next_both(constraint, answer) {
-        return false;
+fn read_case<R: Read, W: Write>(
+    input: &mut R,
+    output: &mut W,
+    constraint: &mut [u8],
+    answer: &mut [u8],
+    table: &mut [u64],
+) -> io::Result<bool> {
+    if !next_both(input, constraint, answer)? {
+        return Ok(false);
     }
     reporting::fill(table);
     match answer::read(constraint, answer, table) {
-        ReadReply::Read(n) => reporting::print_count(b"read ", n),
-        ReadReply::Refused(refusal) => reporting::print_refusal(refusal),
+        ReadReply::Read(n) => reporting::print_count(output, b"read ", n)?,
+        ReadReply::Refused(refusal) => reporting::print_refusal(output, refusal)?,
     }
-    io::write_all(STDOUT_FILENO, b"\n");
-    reporting::print_table(table);
-    true
+    output.write_all(b"\n")?;
+    reporting::print_table(output, table)?;
+    Ok(true)
 }
 
-fn write_case(
+fn write_case<R: Read, W: Write>(
+    input: &mut R,
+    output: &mut W,
     constraint: &mut [u8],
     digits: &mut [u8],
     table: &mut [u64],
     room: &mut [u8],
-) -> bool {
-    if !next_both(constraint, digits) {
-        return false;
+) -> io::Result<bool> {
+    if !next_both(input, constraint, digits)? {
+        return Ok(false);
     }
     parse(digits, table);
     match writer::write(constraint, table, room) {
-        WriteReply::Written(n) => reporting::print_count(b"written ", n),
-        WriteReply::Refused(refusal) => reporting::print_refusal(refusal),
+        WriteReply::Written(n) => reporting::print_count(output, b"written ", n)?,
+        WriteReply::Refused(refusal) => reporting::print_refusal(output, refusal)?,
     }
-    io::write_all(STDOUT_FILENO, b"\n");
-    io::write_all(STDOUT_FILENO, room);
-    io::write_all(STDOUT_FILENO, b"\n");
-    true
+    output.write_all(b"\n")?;
+    output.write_all(room)?;
+    output.write_all(b"\n")?;
+    Ok(true)
 }
 
-fn run_read(constraint_length: usize, answer_length: usize, entries: usize) -> bool {
+fn run_read<R: Read, W: Write>(
+    input: &mut R,
+    output: &mut W,
+    constraint_length: usize,
+    answer_length: usize,
+    entries: usize,
+) -> io::Result<bool> {
     if FILE < constraint_length {
-        return false;
+        return Ok(false);
     }
     if FILE < answer_length {
-        return false;
+        return Ok(false);
     }
     if TABLE < entries {
-        return false;
+        return Ok(false);
     }
     let mut constraint = [0u8; FILE];
     let mut answer = [0u8; FILE];
     let mut table = [0u64; TABLE];
     read_case(
+        input,
+        output,
         &mut constraint[..constraint_length],
         &mut answer[..answer_length],
         &mut table[..entries],
     )
 }
 
-fn run_write(constraint_length: usize, entries: usize, room_length: usize) -> bool {
+fn run_write<R: Read, W: Write>(
+    input: &mut R,
+    output: &mut W,
+    constraint_length: usize,
+    entries: usize,
+    room_length: usize,
+) -> io::Result<bool> {
     if FILE < constraint_length {
-        return false;
+        return Ok(false);
     }
     if TABLE < entries {
-        return false;
+        return Ok(false);
     }
     if ROOM < room_length {
-        return false;
+        return Ok(false);
     }
     let mut constraint = [0u8; FILE];
     let mut digits = [0u8; DIGITS];
@@ -119,6 +139,8 @@ fn run_write(constraint_length: usize, entries: usize, room_length: usize) -> bo
     let mut room = [b'.'; ROOM];
     let n = entries * VALUE;
     write_case(
+        input,
+        output,
         &mut constraint[..constraint_length],
         &mut digits[..n],
         &mut table[..entries],
@@ -127,25 +149,29 @@ fn run_write(constraint_length: usize, entries: usize, room_length: usize) -> bo
 }
 
 // Answers the next case; false where none is left, or one is larger than the room for it.
-fn run_case() -> bool {
+fn run_case<R: Read, W: Write>(input: &mut R, output: &mut W) -> io::Result<bool> {
     let mut header = [0u8; HEADER];
-    if !reporting::next_bytes(&mut header) {
-        return false;
+    if !reporting::next_bytes(input, &mut header)? {
+        return Ok(false);
     }
     let first = reporting::hex(&header, FIRST, FIRST + NUMBER) as usize;
     let second = reporting::hex(&header, SECOND, SECOND + NUMBER) as usize;
     let third = reporting::hex(&header, THIRD, THIRD + NUMBER) as usize;
     if header[0] == b'r' {
-        run_read(first, second, third)
+        run_read(input, output, first, second, third)
     } else {
-        run_write(first, second, third)
+        run_write(input, output, first, second, third)
     }
 }
 
-// A proved loop has to end, and nothing says that the input does: so the turns are counted down.
-fn main() {
-    let mut turns = u64::MAX;
-    while turns > 0 && run_case() {
-        turns -= 1;
+// A proved loop has to end, and nothing says that the input does: so the turns are counted.
+fn main(rt: HostRuntime) -> io::Result<()> {
+    let mut input = BufReader::new(rt.alloc(), rt.stdin())?;
+    let mut output = BufWriter::new(rt.alloc(), rt.stdout())?;
+    for _ in 0..u64::MAX {
+        if !run_case(&mut input, &mut output)? {
+            break;
+        }
     }
+    output.flush()
 }

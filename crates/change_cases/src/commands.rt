@@ -10,9 +10,9 @@ ghost use Rattle.std.specs.Prelude.{◌≤◌};
 
 use super::entries::{print_numbers, store_number, store_verdict, store_word};
 use index::{IndexReply, index};
-use libc::STDOUT_FILENO;
 use moves::ChangeReply;
 use moves::runs::{change_front, change_front_through};
+use std::io::{self, Read, Write};
 use verdict_printing::print_overall;
 
 const COMMAND: usize = 63;
@@ -62,12 +62,12 @@ fn read_command(line: &[u8; COMMAND]) -> Command {
 }
 
 // The next command; where the input is too short, one that ends the run.
-fn next_command() -> Command {
+fn next_command<R: Read>(input: &mut R) -> io::Result<Command> {
     let mut line = [0u8; COMMAND];
-    if !reporting::next_bytes(&mut line) {
+    if !reporting::next_bytes(input, &mut line)? {
         line[0] = b'e';
     }
-    read_command(&line)
+    Ok(read_command(&line))
 }
 
 // A length, or all that there is.
@@ -78,48 +78,55 @@ fn at_most(length: usize, all: usize) -> usize
 }
 
 // Prints the parts of an index that are lent.
-pub(crate) fn print_lent(starts: &[u32], lists: &[u32], lent: Lent) {
+pub(crate) fn print_lent<W: Write>(
+    output: &mut W,
+    starts: &[u32],
+    lists: &[u32],
+    lent: Lent,
+) -> io::Result<()> {
     let s = at_most(lent.starts, starts.len());
     let l = at_most(lent.lists, lists.len());
-    print_numbers(&starts[..s]);
-    print_numbers(&lists[..l]);
+    print_numbers(output, &starts[..s])?;
+    print_numbers(output, &lists[..l])
 }
 
-fn print_change(reply: ChangeReply) {
+fn print_change<W: Write>(output: &mut W, reply: ChangeReply) -> io::Result<()> {
     match reply {
         ChangeReply::Changed(effect) => {
-            let overall = effect.overall;
-            print_overall(overall);
-            reporting::print_count(b" named ", effect.named);
-            reporting::print_count(b" altered ", effect.altered);
-            reporting::print_count(b" bits ", effect.bits as usize);
+            print_overall(output, effect.overall)?;
+            reporting::print_count(output, b" named ", effect.named)?;
+            reporting::print_count(output, b" altered ", effect.altered)?;
+            reporting::print_count(output, b" bits ", effect.bits as usize)?;
         }
-        ChangeReply::Refused(refusal) => reporting::print_refusal(refusal),
+        ChangeReply::Refused(refusal) => reporting::print_refusal(output, refusal)?,
     }
-    io::write_all(STDOUT_FILENO, b"\n");
+    output.write_all(b"\n")
 }
 
-fn print_building(reply: IndexReply) {
+fn print_building<W: Write>(output: &mut W, reply: IndexReply) -> io::Result<()> {
     match reply {
-        IndexReply::Indexed(lines) => reporting::print_count(b"indexed ", lines),
-        IndexReply::Refused(refusal) => reporting::print_refusal(refusal),
+        IndexReply::Indexed(lines) => reporting::print_count(output, b"indexed ", lines)?,
+        IndexReply::Refused(refusal) => reporting::print_refusal(output, refusal)?,
     }
-    io::write_all(STDOUT_FILENO, b"\n");
+    output.write_all(b"\n")
 }
 
-fn change_plainly(
+fn change_plainly<W: Write>(
+    output: &mut W,
     c: Command,
     constraint: &[u8],
     values: &mut [u64],
     verdicts: &mut [u8],
     results: &mut [u64],
-) {
-    print_change(change_front(
+) -> io::Result<()> {
+    let reply = change_front(
         constraint, values, c.third, verdicts, c.fourth, results, c.fifth, c.first, c.second,
-    ));
+    );
+    print_change(output, reply)
 }
 
-fn change_through_lent(
+fn change_through_lent<W: Write>(
+    output: &mut W,
     c: Command,
     constraint: &[u8],
     values: &mut [u64],
@@ -128,10 +135,10 @@ fn change_through_lent(
     starts: &[u32],
     lists: &[u32],
     lent: Lent,
-) {
+) -> io::Result<()> {
     let s = at_most(lent.starts, starts.len());
     let l = at_most(lent.lists, lists.len());
-    print_change(change_front_through(
+    let reply = change_front_through(
         constraint,
         values,
         c.third,
@@ -143,18 +150,27 @@ fn change_through_lent(
         &lists[..l],
         c.first,
         c.second,
-    ));
+    );
+    print_change(output, reply)
 }
 
-fn build(constraint: &[u8], starts: &mut [u32], lists: &mut [u32], lent: Lent) {
+fn build<W: Write>(
+    output: &mut W,
+    constraint: &[u8],
+    starts: &mut [u32],
+    lists: &mut [u32],
+    lent: Lent,
+) -> io::Result<()> {
     let s = at_most(lent.starts, starts.len());
     let l = at_most(lent.lists, lists.len());
-    print_building(index(constraint, &mut starts[..s], &mut lists[..l]));
-    print_lent(starts, lists, lent);
+    let reply = index(constraint, &mut starts[..s], &mut lists[..l]);
+    print_building(output, reply)?;
+    print_lent(output, starts, lists, lent)
 }
 
 // Does what a command says; what is lent behind it.
-fn obey(
+fn obey<W: Write>(
+    output: &mut W,
     c: Command,
     constraint: &[u8],
     values: &mut [u64],
@@ -163,54 +179,54 @@ fn obey(
     starts: &mut [u32],
     lists: &mut [u32],
     lent: Lent,
-) -> Lent {
+) -> io::Result<Lent> {
     let letter = c.letter;
     match letter {
-        b'c' => change_plainly(c, constraint, values, verdicts, results),
+        b'c' => change_plainly(output, c, constraint, values, verdicts, results)?,
         b't' => change_through_lent(
-            c, constraint, values, verdicts, results, starts, lists, lent,
-        ),
-        b'b' => build(constraint, starts, lists, lent),
+            output, c, constraint, values, verdicts, results, starts, lists, lent,
+        )?,
+        b'b' => build(output, constraint, starts, lists, lent)?,
         b's' => store_number(starts, c.first, c.second),
         b'l' => store_number(lists, c.first, c.second),
         b'v' => store_word(values, c.first, c.second),
         b'w' => store_verdict(verdicts, c.first, c.second),
         b'u' => store_word(results, c.first, c.second),
         b'n' => {
-            return Lent {
+            return Ok(Lent {
                 starts: c.third,
                 lists: c.fourth,
-            };
+            });
         }
         _ => {}
     }
-    lent
+    Ok(lent)
 }
 
 // Obeys the commands up to the run's end; what is lent then.
-// A proved loop has to end, and nothing says that the input does: so the turns are counted down.
-pub(crate) fn obey_all(
+// A proved loop has to end, and nothing says that the input does: so the turns are counted.
+pub(crate) fn obey_all<R: Read, W: Write>(
+    input: &mut R,
+    output: &mut W,
     constraint: &[u8],
     values: &mut [u64],
     verdicts: &mut [u8],
     results: &mut [u64],
     starts: &mut [u32],
     lists: &mut [u32],
-) -> Lent {
+) -> io::Result<Lent> {
     let mut lent = Lent {
         starts: 0,
         lists: 0,
     };
-    let mut turns = u64::MAX;
-    while turns > 0 {
-        let c = next_command();
+    for _ in 0..u64::MAX {
+        let c = next_command(input)?;
         if c.letter == b'e' {
-            return lent;
+            break;
         }
         lent = obey(
-            c, constraint, values, verdicts, results, starts, lists, lent,
-        );
-        turns -= 1;
+            output, c, constraint, values, verdicts, results, starts, lists, lent,
+        )?;
     }
-    lent
+    Ok(lent)
 }

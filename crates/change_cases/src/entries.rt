@@ -1,5 +1,5 @@
 // Tables of 32-bit numbers, filled and printed, and single entries that are stored into any table.
-use libc::STDOUT_FILENO;
+use std::io::{self, Write};
 
 // What stands in a table before the first use: each entry is this much more than the one before it.
 const STEP: u32 = 10007;
@@ -17,27 +17,18 @@ fn next_number(v: u32) -> u32 {
 // Fills a table, so that each entry is told from the others.
 pub(crate) fn fill_numbers(table: &mut [u32]) {
     let mut v = 0;
-    let mut i = 0;
-    while i < table.len() {
+    for entry in table.iter_mut() {
         v = next_number(v);
-        table[i] = v;
-        i += 1;
+        *entry = v;
     }
-}
-
-fn print_number(number: u32) {
-    io::print_decimal(STDOUT_FILENO, number as u64);
-    io::write_all(STDOUT_FILENO, b" ");
 }
 
 // Prints the entries of a table, a space behind each, and a line end.
-pub(crate) fn print_numbers(table: &[u32]) {
-    let mut i = 0;
-    while i < table.len() {
-        print_number(table[i]);
-        i += 1;
+pub(crate) fn print_numbers<W: Write>(output: &mut W, table: &[u32]) -> io::Result<()> {
+    for number in table {
+        write!(output, "{number} ")?;
     }
-    io::write_all(STDOUT_FILENO, b"\n");
+    output.write_all(b"\n")
 }
 
 // These store an entry where the table has such a place.

@@ -13,6 +13,7 @@ use entries::fill_numbers;
 use reporting::cases::{
     FILE, NO_VERDICT, NextCase, RESULTS, Sizes, VALUES, VERDICTS, next_both, next_case,
 };
+use std::io::{self, BufReader, BufWriter, Read, Write};
 use tables::check::check;
 use verdict_printing::{print_reply, print_verdicts};
 
@@ -25,63 +26,71 @@ const STARTS: usize = 300;
 const LISTS: usize = 4200;
 
 // Fills the tables, and prints what the check answers.
-fn begin(
+fn begin<W: Write>(
+    output: &mut W,
     constraint: &[u8],
     answer: &[u8],
     values: &mut [u64],
     verdicts: &mut [u8],
     results: &mut [u64],
-) {
+) -> io::Result<()> {
     reporting::fill(values);
     reporting::fill_down(results);
-    print_reply(check(constraint, answer, values, verdicts, results));
+    print_reply(output, check(constraint, answer, values, verdicts, results))
 }
 
 // The index is printed only where a part of it is lent.
-fn replay(
+fn replay<R: Read, W: Write>(
+    input: &mut R,
+    output: &mut W,
     constraint: &[u8],
     answer: &[u8],
     values: &mut [u64],
     verdicts: &mut [u8],
     results: &mut [u64],
-) {
+) -> io::Result<()> {
     let mut starts = [0u32; STARTS];
     let mut lists = [0u32; LISTS];
     fill_numbers(&mut starts);
     fill_numbers(&mut lists);
-    begin(constraint, answer, values, verdicts, results);
+    begin(output, constraint, answer, values, verdicts, results)?;
     let lent = obey_all(
+        input,
+        output,
         constraint,
         values,
         verdicts,
         results,
         &mut starts,
         &mut lists,
-    );
-    reporting::print_table(values);
-    print_verdicts(verdicts);
-    reporting::print_table(results);
+    )?;
+    reporting::print_table(output, values)?;
+    print_verdicts(output, verdicts)?;
+    reporting::print_table(output, results)?;
     if lent.starts > 0 || lent.lists > 0 {
-        print_lent(&starts, &lists, lent);
+        print_lent(output, &starts, &lists, lent)?;
     }
+    Ok(())
 }
 
 // Loads the files of a run, and replays it; false where the input is too short.
-fn replay_run(
+fn replay_run<R: Read, W: Write>(
+    input: &mut R,
+    output: &mut W,
     constraint: &mut [u8],
     answer: &mut [u8],
     values: &mut [u64],
     verdicts: &mut [u8],
     results: &mut [u64],
-) -> bool {
-    if !next_both(constraint, answer) {
-        return false;
+) -> io::Result<bool> {
+    if !next_both(input, constraint, answer)? {
+        return Ok(false);
     }
-    replay(constraint, answer, values, verdicts, results);
-    true
+    replay(input, output, constraint, answer, values, verdicts, results)?;
+    Ok(true)
 }
 
-fn run(sizes: Sizes) -> bool
+fn run<R: Read, W: Write>(input: &mut R, output: &mut W, sizes: Sizes) -> io::Result<bool>
     requires { Fitted sizes }
 {
     let mut constraint = [0u8; FILE];
@@ -95,6 +104,8 @@ fn run(sizes: Sizes) -> bool
     let q = sizes.verdicts;
     let s = sizes.results;
     replay_run(
+        input,
+        output,
         &mut constraint[..n],
         &mut answer[..m],
         &mut values[..p],
@@ -104,16 +115,21 @@ fn run(sizes: Sizes) -> bool
 }
 
 // Replays the next run; false where none is left, or one is larger than the room for it.
-fn run_case() -> bool {
-    match next_case() {
-        NextCase::Case(sizes) => run(sizes),
-        NextCase::End => false,
+fn run_case<R: Read, W: Write>(input: &mut R, output: &mut W) -> io::Result<bool> {
+    match next_case(input)? {
+        NextCase::Case(sizes) => run(input, output, sizes),
+        NextCase::End => Ok(false),
     }
 }
 
-fn main() {
-    let mut turns = u64::MAX;
-    while turns > 0 && run_case() {
-        turns -= 1;
+// A proved loop has to end, and nothing says that the input does: so the turns are counted.
+fn main(rt: HostRuntime) -> io::Result<()> {
+    let mut input = BufReader::new(rt.alloc(), rt.stdin())?;
+    let mut output = BufWriter::new(rt.alloc(), rt.stdout())?;
+    for _ in 0..u64::MAX {
+        if !run_case(&mut input, &mut output)? {
+            break;
+        }
     }
+    output.flush()
 }

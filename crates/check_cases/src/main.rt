@@ -7,49 +7,53 @@
 
 ghost use Rattle.reporting.specs.CaseRooms.{Fitted};
 
-use libc::STDOUT_FILENO;
 use reporting::cases::{
     FILE, NO_VERDICT, NextCase, RESULTS, Sizes, VALUES, VERDICTS, next_both, next_case,
 };
 use spear::spear_check;
+use std::io::{self, BufReader, BufWriter, Read, Write};
 use tables::check::check;
 use verdict_printing::{print_reply, print_report, print_verdicts};
 
 // Prints what the check, the report and the C call answer.
-fn print_case(
+fn print_case<W: Write>(
+    output: &mut W,
     constraint: &[u8],
     answer: &[u8],
     values: &mut [u64],
     verdicts: &mut [u8],
     results: &mut [u64],
-) {
+) -> io::Result<()> {
     reporting::fill(values);
     reporting::fill_down(results);
-    print_reply(check(constraint, answer, values, verdicts, results));
-    reporting::print_table(values);
-    print_verdicts(verdicts);
-    reporting::print_table(results);
-    print_report(constraint, answer);
-    reporting::print_count(b"code ", spear_check(constraint, answer) as usize);
-    io::write_all(STDOUT_FILENO, b"\n");
+    print_reply(output, check(constraint, answer, values, verdicts, results))?;
+    reporting::print_table(output, values)?;
+    print_verdicts(output, verdicts)?;
+    reporting::print_table(output, results)?;
+    print_report(output, constraint, answer)?;
+    let code = spear_check(constraint, answer) as usize;
+    reporting::print_count(output, b"code ", code)?;
+    output.write_all(b"\n")
 }
 
 // Loads the files of a case, and answers it; false where the input is too short.
-fn answer_case(
+fn answer_case<R: Read, W: Write>(
+    input: &mut R,
+    output: &mut W,
     constraint: &mut [u8],
     answer: &mut [u8],
     values: &mut [u64],
     verdicts: &mut [u8],
     results: &mut [u64],
-) -> bool {
-    if !next_both(constraint, answer) {
-        return false;
+) -> io::Result<bool> {
+    if !next_both(input, constraint, answer)? {
+        return Ok(false);
     }
-    print_case(constraint, answer, values, verdicts, results);
-    true
+    print_case(output, constraint, answer, values, verdicts, results)?;
+    Ok(true)
 }
 
-fn run(sizes: Sizes) -> bool
+fn run<R: Read, W: Write>(input: &mut R, output: &mut W, sizes: Sizes) -> io::Result<bool>
     requires { Fitted sizes }
 {
     let mut constraint = [0u8; FILE];
@@ -63,6 +67,8 @@ fn run(sizes: Sizes) -> bool
     let q = sizes.verdicts;
     let s = sizes.results;
     answer_case(
+        input,
+        output,
         &mut constraint[..n],
         &mut answer[..m],
         &mut values[..p],
@@ -72,17 +78,21 @@ fn run(sizes: Sizes) -> bool
 }
 
 // Answers the next case; false where none is left, or one is larger than the room for it.
-fn run_case() -> bool {
-    match next_case() {
-        NextCase::Case(sizes) => run(sizes),
-        NextCase::End => false,
+fn run_case<R: Read, W: Write>(input: &mut R, output: &mut W) -> io::Result<bool> {
+    match next_case(input)? {
+        NextCase::Case(sizes) => run(input, output, sizes),
+        NextCase::End => Ok(false),
     }
 }
 
-// A proved loop has to end, and nothing says that the input does: so the turns are counted down.
-fn main() {
-    let mut turns = u64::MAX;
-    while turns > 0 && run_case() {
-        turns -= 1;
+// A proved loop has to end, and nothing says that the input does: so the turns are counted.
+fn main(rt: HostRuntime) -> io::Result<()> {
+    let mut input = BufReader::new(rt.alloc(), rt.stdin())?;
+    let mut output = BufWriter::new(rt.alloc(), rt.stdout())?;
+    for _ in 0..u64::MAX {
+        if !run_case(&mut input, &mut output)? {
+            break;
+        }
     }
+    output.flush()
 }

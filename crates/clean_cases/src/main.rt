@@ -5,8 +5,8 @@
 #![tactic(auto)]
 
 use clean::clean;
-use libc::STDOUT_FILENO;
 use printing::WriteReply;
+use std::io::{self, BufReader, BufWriter, Read, Write};
 
 const HEADER: usize = 18;
 
@@ -19,65 +19,80 @@ const NUMBER: usize = 8;
 const ROOM: usize = 70000;
 
 // Cleans a file, prints the reply and the room, and answers how many bytes were written.
-fn print_cleaned(file: &[u8], room: &mut [u8]) -> usize {
+fn print_cleaned<W: Write>(output: &mut W, file: &[u8], room: &mut [u8]) -> io::Result<usize> {
     let reply = clean(file, room);
     match reply {
-        WriteReply::Written(n) => reporting::print_count(b"written ", n),
-        WriteReply::Refused(refusal) => reporting::print_refusal(refusal),
+        WriteReply::Written(n) => reporting::print_count(output, b"written ", n)?,
+        WriteReply::Refused(refusal) => reporting::print_refusal(output, refusal)?,
     }
-    io::write_all(STDOUT_FILENO, b"\n");
-    io::write_all(STDOUT_FILENO, room);
-    io::write_all(STDOUT_FILENO, b"\n");
+    output.write_all(b"\n")?;
+    output.write_all(room)?;
+    output.write_all(b"\n")?;
     match reply {
-        WriteReply::Written(n) => n,
-        WriteReply::Refused(_) => 0,
+        WriteReply::Written(n) => Ok(n),
+        WriteReply::Refused(_) => Ok(0),
     }
 }
 
 // Cleans a clean text again.
-fn print_again(text: &[u8]) {
+fn print_again<W: Write>(output: &mut W, text: &[u8]) -> io::Result<()> {
     if ROOM < text.len() {
-        return;
+        return Ok(());
     }
     let mut room = [b'.'; ROOM];
-    print_cleaned(text, &mut room[..text.len()]);
+    print_cleaned(output, text, &mut room[..text.len()])?;
+    Ok(())
 }
 
 // Loads the file of a case, and answers it; false where the input is too short.
-fn clean_case(file: &mut [u8], room: &mut [u8]) -> bool {
-    if !reporting::next_bytes(file) {
-        return false;
+fn clean_case<R: Read, W: Write>(
+    input: &mut R,
+    output: &mut W,
+    file: &mut [u8],
+    room: &mut [u8],
+) -> io::Result<bool> {
+    if !reporting::next_bytes(input, file)? {
+        return Ok(false);
     }
-    let written = print_cleaned(file, room);
+    let written = print_cleaned(output, file, room)?;
     if 0 < written && written <= room.len() {
-        print_again(&room[..written]);
+        print_again(output, &room[..written])?;
     }
-    true
+    Ok(true)
 }
 
 // Answers the next case; false where none is left, or one is larger than the room for it.
-fn run_case() -> bool {
+fn run_case<R: Read, W: Write>(input: &mut R, output: &mut W) -> io::Result<bool> {
     let mut header = [0u8; HEADER];
-    if !reporting::next_bytes(&mut header) {
-        return false;
+    if !reporting::next_bytes(input, &mut header)? {
+        return Ok(false);
     }
     let file_length = reporting::hex(&header, 0, NUMBER) as usize;
     let room_length = reporting::hex(&header, SECOND, SECOND + NUMBER) as usize;
     if ROOM < file_length {
-        return false;
+        return Ok(false);
     }
     if ROOM < room_length {
-        return false;
+        return Ok(false);
     }
     let mut file = [0u8; ROOM];
     let mut room = [b'.'; ROOM];
-    clean_case(&mut file[..file_length], &mut room[..room_length])
+    clean_case(
+        input,
+        output,
+        &mut file[..file_length],
+        &mut room[..room_length],
+    )
 }
 
-// A proved loop has to end, and nothing says that the input does: so the turns are counted down.
-fn main() {
-    let mut turns = u64::MAX;
-    while turns > 0 && run_case() {
-        turns -= 1;
+// A proved loop has to end, and nothing says that the input does: so the turns are counted.
+fn main(rt: HostRuntime) -> io::Result<()> {
+    let mut input = BufReader::new(rt.alloc(), rt.stdin())?;
+    let mut output = BufWriter::new(rt.alloc(), rt.stdout())?;
+    for _ in 0..u64::MAX {
+        if !run_case(&mut input, &mut output)? {
+            break;
+        }
     }
+    output.flush()
 }

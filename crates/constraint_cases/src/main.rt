@@ -4,8 +4,8 @@
 // Before each file stands its length: eight hexadecimal digits and a line end.
 #![tactic(auto)]
 
-use libc::{STDIN_FILENO, STDOUT_FILENO};
 use reader::{Counts, Inspected};
+use std::io::{self, BufReader, BufWriter, Read, Write};
 
 // The bytes of a length, with its line end.
 const HEADER: usize = 9;
@@ -13,55 +13,55 @@ const HEADER: usize = 9;
 // Room for a file, and for one that is longer than a file may be.
 const ROOM: usize = 70000;
 
-fn print_counts(counts: Counts) {
-    io::write_all(STDOUT_FILENO, b"variables ");
-    io::print_decimal(STDOUT_FILENO, counts.variables as u64);
-    io::write_all(STDOUT_FILENO, b" lines ");
-    io::print_decimal(STDOUT_FILENO, counts.lines as u64);
+fn print_counts<W: Write>(output: &mut W, counts: Counts) -> io::Result<()> {
+    reporting::print_count(output, b"variables ", counts.variables)?;
+    reporting::print_count(output, b" lines ", counts.lines)
 }
 
-fn print_inspected(reply: Inspected) {
+fn print_inspected<W: Write>(output: &mut W, reply: Inspected) -> io::Result<()> {
     match reply {
-        Inspected::Sound(counts) => print_counts(counts),
-        Inspected::Refused(refusal) => reporting::print_refusal(refusal),
+        Inspected::Sound(counts) => print_counts(output, counts)?,
+        Inspected::Refused(refusal) => reporting::print_refusal(output, refusal)?,
     }
-    io::write_all(STDOUT_FILENO, b"\n");
+    output.write_all(b"\n")
 }
 
 // The length of the next file; more than there is room for where no file is left.
-fn next_length() -> usize {
+fn next_length<R: Read>(input: &mut R) -> io::Result<usize> {
     let mut header = [0u8; HEADER];
-    let n = io::read_full(STDIN_FILENO, &mut header);
-    if n < HEADER {
-        return ROOM + 1;
+    if !reporting::next_bytes(input, &mut header)? {
+        return Ok(ROOM + 1);
     }
-    reporting::hex(&header, 0, HEADER - 1) as usize
+    Ok(reporting::hex(&header, 0, HEADER - 1) as usize)
 }
 
-// Fills `file` from standard input and answers it; false where the input is too short.
-fn run_file(file: &mut [u8]) -> bool {
-    let n = io::read_full(STDIN_FILENO, file);
-    if n < file.len() {
-        return false;
+// Fills `file` from the input and answers it; false where the input is too short.
+fn run_file<R: Read, W: Write>(input: &mut R, output: &mut W, file: &mut [u8]) -> io::Result<bool> {
+    if !reporting::next_bytes(input, file)? {
+        return Ok(false);
     }
-    print_inspected(reader::inspect(file));
-    true
+    print_inspected(output, reader::inspect(file))?;
+    Ok(true)
 }
 
 // Answers the next file; false where none is left, or it is longer than the room for it.
-fn run_case() -> bool {
-    let length = next_length();
+fn run_case<R: Read, W: Write>(input: &mut R, output: &mut W) -> io::Result<bool> {
+    let length = next_length(input)?;
     if length > ROOM {
-        return false;
+        return Ok(false);
     }
     let mut room = [0u8; ROOM];
-    run_file(&mut room[..length])
+    run_file(input, output, &mut room[..length])
 }
 
-// A proved loop has to end, and nothing says that the input does: so the turns are counted down.
-fn main() {
-    let mut turns = u64::MAX;
-    while turns > 0 && run_case() {
-        turns -= 1;
+// A proved loop has to end, and nothing says that the input does: so the turns are counted.
+fn main(rt: HostRuntime) -> io::Result<()> {
+    let mut input = BufReader::new(rt.alloc(), rt.stdin())?;
+    let mut output = BufWriter::new(rt.alloc(), rt.stdout())?;
+    for _ in 0..u64::MAX {
+        if !run_case(&mut input, &mut output)? {
+            break;
+        }
     }
+    output.flush()
 }

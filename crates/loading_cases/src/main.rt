@@ -2,25 +2,26 @@
 // tools/loading_cases.py writes the files, the arguments and, by an evaluator of its own, what is printed.
 #![tactic(auto)]
 
-use libc::STDOUT_FILENO;
 use loading::{FILE_ROOM, load};
 use reporting::print_count;
+use std::io::{self, Write};
 use verdict_printing::print_report;
 
-fn show(i: usize) {
+fn show(rt: &HostRuntime, i: usize) -> io::Result<()> {
     let mut room = [0u8; FILE_ROOM];
-    let n = load(i, &mut room);
-    print_count(b"bytes ", n);
-    io::write_all(STDOUT_FILENO, b"\n");
-    print_report(&room[..n], b"s SATISFIABLE\n");
+    let n = load(rt, i, &mut room)?;
+    let mut output = rt.stdout();
+    print_count(&mut output, b"bytes ", n)?;
+    output.write_all(b"\n")?;
+    print_report(&mut output, &room[..n], b"s SATISFIABLE\n")
 }
 
 // Five files, and an argument that is not there.
-fn main() {
-    show(1);
-    show(2);
-    show(3);
-    show(4);
-    show(5);
-    show(6);
+fn main(rt: HostRuntime) -> io::Result<()> {
+    show(&rt, 1)?;
+    show(&rt, 2)?;
+    show(&rt, 3)?;
+    show(&rt, 4)?;
+    show(&rt, 5)?;
+    show(&rt, 6)
 }

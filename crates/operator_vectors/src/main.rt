@@ -9,8 +9,8 @@ ghost use Rattle.std.specs.Prelude.{◌+◌, ◌≤◌};
 
 use arithmetic::Word;
 use arithmetic::numbering::operator_numbered;
-use libc::{STDIN_FILENO, STDOUT_FILENO};
 use operator::Applied;
+use std::io::{self, BufReader, BufWriter, Read, Write};
 
 // The bytes of a line, with its line end.
 const LINE: usize = 66;
@@ -28,42 +28,42 @@ fn word(line: &[u8; LINE], at: usize) -> Word
     }
 }
 
-fn print_applied(reply: Applied) {
+fn print_applied<W: Write>(output: &mut W, reply: Applied) -> io::Result<()> {
     match reply {
-        Applied::Value(value) => {
-            io::print_decimal(STDOUT_FILENO, value);
-        }
-        Applied::ZeroDivisor => {
-            io::write_all(STDOUT_FILENO, b"zero divisor");
-        }
-        Applied::Refused(refusal) => reporting::print_refusal(refusal),
+        Applied::Value(value) => write!(output, "{value}")?,
+        Applied::ZeroDivisor => output.write_all(b"zero divisor")?,
+        Applied::Refused(refusal) => reporting::print_refusal(output, refusal)?,
     }
-    io::write_all(STDOUT_FILENO, b"\n");
+    output.write_all(b"\n")
 }
 
 // Answers one vector; false where no whole line is left, or its operator is unknown.
-fn run_vector() -> bool {
+fn run_vector<R: Read, W: Write>(input: &mut R, output: &mut W) -> io::Result<bool> {
     let mut line = [0u8; LINE];
-    let n = io::read_full(STDIN_FILENO, &mut line);
-    if n < LINE {
-        return false;
+    if !reporting::next_bytes(input, &mut line)? {
+        return Ok(false);
     }
     let number = reporting::hex(&line, 0, 2);
     if number > LAST {
-        return false;
+        return Ok(false);
     }
     let width = reporting::hex(&line, 3, 5);
     let a = word(&line, 6);
     let b = word(&line, 26);
     let c = word(&line, 46);
-    print_applied(operator::apply(operator_numbered(number), width, a, b, c));
-    true
+    let reply = operator::apply(operator_numbered(number), width, a, b, c);
+    print_applied(output, reply)?;
+    Ok(true)
 }
 
-// A proved loop has to end, and nothing says that the input does: so the turns are counted down.
-fn main() {
-    let mut turns = u64::MAX;
-    while turns > 0 && run_vector() {
-        turns -= 1;
+// A proved loop has to end, and nothing says that the input does: so the turns are counted.
+fn main(rt: HostRuntime) -> io::Result<()> {
+    let mut input = BufReader::new(rt.alloc(), rt.stdin())?;
+    let mut output = BufWriter::new(rt.alloc(), rt.stdout())?;
+    for _ in 0..u64::MAX {
+        if !run_vector(&mut input, &mut output)? {
+            break;
+        }
     }
+    output.flush()
 }

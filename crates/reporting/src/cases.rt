@@ -1,8 +1,10 @@
-// Cases of two files and three tables, as standard input has them: a line of 47 bytes, and the bytes of the files.
+// Cases of two files and three tables, as the input has them: a line of 47 bytes, and the bytes of the files.
 // The line has a letter and five numbers of eight hexadecimal digits: the lengths of the constraint file and of the answer, and the entries of the tables of values, verdicts and results.
+ghost use Rattle.std.specs.Prelude.{IfOk};
 ghost use Rattle.reporting.specs.CaseRooms.{Roomy};
 
 use super::{hex, next_bytes};
+use std::io::{self, Read};
 
 // Room for a file, and for one that is longer than a file may be.
 pub const FILE: usize = 70000;
@@ -57,36 +59,36 @@ fn read_header(header: &[u8; HEADER]) -> Sizes {
 }
 
 // The next case; none where none is left, or it is larger than the room for it.
-pub fn next_case() -> NextCase
-    ensures { Roomy result }
+pub fn next_case<R: Read>(input: &mut R) -> io::Result<NextCase>
+    ensures { IfOk result Roomy }
 {
     let mut header = [0u8; HEADER];
-    if !next_bytes(&mut header) {
-        return NextCase::End;
+    if !next_bytes(input, &mut header)? {
+        return Ok(NextCase::End);
     }
     let s = read_header(&header);
     if FILE < s.constraint {
-        return NextCase::End;
+        return Ok(NextCase::End);
     }
     if FILE < s.answer {
-        return NextCase::End;
+        return Ok(NextCase::End);
     }
     if VALUES < s.values {
-        return NextCase::End;
+        return Ok(NextCase::End);
     }
     if VERDICTS < s.verdicts {
-        return NextCase::End;
+        return Ok(NextCase::End);
     }
     if RESULTS < s.results {
-        return NextCase::End;
+        return Ok(NextCase::End);
     }
-    NextCase::Case(s)
+    Ok(NextCase::Case(s))
 }
 
-// Fills the bytes of both parts of a case from standard input; false where it is too short.
-pub fn next_both(first: &mut [u8], second: &mut [u8]) -> bool {
-    if !next_bytes(first) {
-        return false;
+// Fills the bytes of both parts of a case from the input; false where it is too short.
+pub fn next_both<R: Read>(input: &mut R, first: &mut [u8], second: &mut [u8]) -> io::Result<bool> {
+    if !next_bytes(input, first)? {
+        return Ok(false);
     }
-    next_bytes(second)
+    next_bytes(input, second)
 }

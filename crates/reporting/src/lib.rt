@@ -4,15 +4,16 @@
 ghost use Rattle.std.specs.Prelude.{◌-◌, ◌≤◌, ◌<◌, ◌≡◌, length, take, drop};
 ghost use Rattle.reporting.specs.Hex.{digit_value, hex_after};
 
-use libc::{STDIN_FILENO, STDOUT_FILENO};
 use printing::refusals::put_refusal;
 use refusal::Refusal;
+use std::io::{self, ErrorKind, Read, Write};
 
 pub mod cases;
 
 // What stands in a table before a call: each entry is this much more, or less, than the one before it.
 const STEP: u64 = 1000003;
 
+#[tactic(auto, unfolding(crate::specs::Hex::digit_value))]
 fn digit(c: u8) -> u64
     ensures { (result ≡ digit_value c) × (result < 16) }
 {
@@ -36,24 +37,28 @@ pub fn hex(text: &[u8], at: usize, end: usize) -> u64
 }
 
 // Prints a word and a number behind it.
-pub fn print_count(word: &[u8], n: usize) {
-    io::write_all(STDOUT_FILENO, word);
-    io::print_decimal(STDOUT_FILENO, n as u64);
+pub fn print_count<W: Write>(output: &mut W, word: &[u8], n: usize) -> io::Result<()> {
+    output.write_all(word)?;
+    write!(output, "{n}")
 }
 
 // Room for the text of any refusal: its words, and two numbers of 20 digits.
 const REFUSAL_BYTES: usize = 60;
 
 // Prints a refusal, with no line end.
-pub fn print_refusal(refusal: Refusal) {
+pub fn print_refusal<W: Write>(output: &mut W, refusal: Refusal) -> io::Result<()> {
     let mut room = [0u8; REFUSAL_BYTES];
     let n = put_refusal(refusal, &mut room, 0);
-    io::write_all(STDOUT_FILENO, &room[..n]);
+    output.write_all(&room[..n])
 }
 
-// Fills the bytes from standard input; false where it is too short.
-pub fn next_bytes(bytes: &mut [u8]) -> bool {
-    io::read_full(STDIN_FILENO, bytes) == bytes.len()
+// Fills the bytes from the input; false where it is too short.
+pub fn next_bytes<R: Read>(input: &mut R, bytes: &mut [u8]) -> io::Result<bool> {
+    match input.read_exact(bytes) {
+        Ok(()) => Ok(true),
+        Err(error) if error.kind() == ErrorKind::UnexpectedEof => Ok(false),
+        Err(error) => Err(error),
+    }
 }
 
 // The entry behind one with the value v.
@@ -64,11 +69,9 @@ fn next_entry(v: u64) -> u64 {
 // Fills a table, so that each entry is told from the others.
 pub fn fill(table: &mut [u64]) {
     let mut v = 0;
-    let mut i = 0;
-    while i < table.len() {
+    for entry in table.iter_mut() {
         v = next_entry(v);
-        table[i] = v;
-        i += 1;
+        *entry = v;
     }
 }
 
@@ -80,21 +83,16 @@ fn lower_entry(v: u64) -> u64 {
 // Fills a table from the largest word down, so that no entry is one of those that `fill` puts.
 pub fn fill_down(table: &mut [u64]) {
     let mut v = u64::MAX;
-    let mut i = 0;
-    while i < table.len() {
-        table[i] = v;
+    for entry in table.iter_mut() {
+        *entry = v;
         v = lower_entry(v);
-        i += 1;
     }
 }
 
 // Prints the entries of a table, a space behind each, and a line end.
-pub fn print_table(table: &[u64]) {
-    let mut i = 0;
-    while i < table.len() {
-        io::print_decimal(STDOUT_FILENO, table[i]);
-        io::write_all(STDOUT_FILENO, b" ");
-        i += 1;
+pub fn print_table<W: Write>(output: &mut W, table: &[u64]) -> io::Result<()> {
+    for entry in table {
+        write!(output, "{entry} ")?;
     }
-    io::write_all(STDOUT_FILENO, b"\n");
+    output.write_all(b"\n")
 }

@@ -2,12 +2,13 @@
 #![tactic(auto)]
 
 use loading::{FILE_ROOM, load};
+use std::io;
 use verdict_printing::print_report;
 
-fn main() {
+fn main(rt: HostRuntime) -> io::Result<()> {
     let mut constraint = [0u8; FILE_ROOM];
     let mut answer = [0u8; FILE_ROOM];
-    let n = load(1, &mut constraint);
-    let m = load(2, &mut answer);
-    print_report(&constraint[..n], &answer[..m]);
+    let n = load(&rt, 1, &mut constraint)?;
+    let m = load(&rt, 2, &mut answer)?;
+    print_report(&mut rt.stdout(), &constraint[..n], &answer[..m])
 }

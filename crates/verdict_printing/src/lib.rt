@@ -2,44 +2,37 @@
 #![tactic(auto)]
 
 use judge::Overall;
-use libc::STDOUT_FILENO;
 use report::{REPORT_BYTES, put_overall, report_on};
+use std::io::{self, Write};
 use tables::CheckReply;
 
 // Prints the overall verdict, with no line end.
-pub fn print_overall(overall: Overall) {
+pub fn print_overall<W: Write>(output: &mut W, overall: Overall) -> io::Result<()> {
     let mut room = [0u8; REPORT_BYTES];
     let n = put_overall(overall, &mut room, 0);
-    io::write_all(STDOUT_FILENO, &room[..n]);
+    output.write_all(&room[..n])
 }
 
 // Prints the report on an answer to a constraint file, any bytes both, and nothing else.
-pub fn print_report(constraint: &[u8], answer: &[u8]) {
+pub fn print_report<W: Write>(output: &mut W, constraint: &[u8], answer: &[u8]) -> io::Result<()> {
     let mut room = [0u8; REPORT_BYTES];
     let n = report_on(constraint, answer, &mut room);
-    io::write_all(STDOUT_FILENO, &room[..n]);
-}
-
-fn print_verdict(verdict: u8) {
-    io::print_decimal(STDOUT_FILENO, verdict as u64);
-    io::write_all(STDOUT_FILENO, b" ");
+    output.write_all(&room[..n])
 }
 
 // Prints the entries of a table, a space behind each, and a line end.
-pub fn print_verdicts(verdicts: &[u8]) {
-    let mut i = 0;
-    while i < verdicts.len() {
-        print_verdict(verdicts[i]);
-        i += 1;
+pub fn print_verdicts<W: Write>(output: &mut W, verdicts: &[u8]) -> io::Result<()> {
+    for verdict in verdicts {
+        write!(output, "{verdict} ")?;
     }
-    io::write_all(STDOUT_FILENO, b"\n");
+    output.write_all(b"\n")
 }
 
 // Prints the overall verdict or the refusal, and a line end.
-pub fn print_reply(reply: CheckReply) {
+pub fn print_reply<W: Write>(output: &mut W, reply: CheckReply) -> io::Result<()> {
     match reply {
-        CheckReply::Checked(overall) => print_overall(overall),
-        CheckReply::Refused(refusal) => reporting::print_refusal(refusal),
+        CheckReply::Checked(overall) => print_overall(output, overall)?,
+        CheckReply::Refused(refusal) => reporting::print_refusal(output, refusal)?,
     }
-    io::write_all(STDOUT_FILENO, b"\n");
+    output.write_all(b"\n")
 }
