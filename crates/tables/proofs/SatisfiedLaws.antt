@@ -52,7 +52,7 @@ module _ (constraint answer : List ℕ) (lent : Room) where
         well_formed = (reads_exactly constraint f).0 s.file;
         well_typed = sound;
         sets = (accepts_exactly (edition_of f) f.variables answer row sound.variables sound.distinct).0 s.answered;
-        values_fit_lem = (answer_fits (edition_of f) f.variables answer row sound.variables sound.distinct s.answered).1;
+        values_fit = (answer_fits (edition_of f) f.variables answer row sound.variables sound.distinct s.answered).1;
         has_room = s.has_room;
         no_zero_divisor = none_by_zero f.variables row f.lines (results_are_there constraint f row s.file fit) hold;
         lines_hold = hold;
