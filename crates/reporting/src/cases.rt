@@ -1,10 +1,11 @@
 // Cases of two files and three tables, as the input has them: a line of 47 bytes, and the bytes of the files.
 // The line has a letter and five numbers of eight hexadecimal digits: the lengths of the constraint file and of the answer, and the entries of the tables of values, verdicts and results.
-ghost use Rattle.std.specs.Prelude.{IfOk};
+ghost use Rattle.std.specs.Prelude.{IfOk, IfErr, ◌≢◌};
+ghost use Rattle.std.specs.IoError.{error_kind};
 ghost use Rattle.reporting.specs.CaseRooms.{Roomy};
 
 use super::{hex, next_bytes};
-use std::io::{self, Read};
+use std::io::{self, ErrorKind, Read};
 
 // Room for a file, and for one that is longer than a file may be.
 pub const FILE: usize = 70000;
@@ -58,9 +59,10 @@ fn read_header(header: &[u8; HEADER]) -> Sizes {
     }
 }
 
-// The next case; none where none is left, or it is larger than the room for it.
+// The next case; none where none is left, or it is larger than the room for it. Only a failed read is an error.
 pub fn next_case<R: Read>(input: &mut R) -> io::Result<NextCase>
-    ensures { IfOk result Roomy }
+    ensures ok { IfOk result Roomy }
+    ensures err { IfErr result (λ e. error_kind e ≢ ErrorKind.UnexpectedEof) }
 {
     let mut header = [0u8; HEADER];
     if !next_bytes(input, &mut header)? {
@@ -86,7 +88,9 @@ pub fn next_case<R: Read>(input: &mut R) -> io::Result<NextCase>
 }
 
 // Fills the bytes of both parts of a case from the input; false where it is too short.
-pub fn next_both<R: Read>(input: &mut R, first: &mut [u8], second: &mut [u8]) -> io::Result<bool> {
+pub fn next_both<R: Read>(input: &mut R, first: &mut [u8], second: &mut [u8]) -> io::Result<bool>
+    ensures { IfErr result (λ e. error_kind e ≢ ErrorKind.UnexpectedEof) }
+{
     if !next_bytes(input, first)? {
         return Ok(false);
     }

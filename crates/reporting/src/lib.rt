@@ -1,7 +1,8 @@
 // What the programs share: reading bytes and numbers, tables, and printing counts and refusals.
 #![tactic(auto)]
 
-ghost use Rattle.std.specs.Prelude.{◌-◌, ◌≤◌, ◌<◌, ◌≡◌, length, take, drop};
+ghost use Rattle.std.specs.Prelude.{◌-◌, ◌≤◌, ◌<◌, ◌≡◌, ◌≢◌, length, take, drop, IfErr};
+ghost use Rattle.std.specs.IoError.{error_kind};
 ghost use Rattle.reporting.specs.Hex.{digit_value, hex_after};
 
 use printing::refusals::put_refusal;
@@ -52,8 +53,10 @@ pub fn print_refusal<W: Write>(output: &mut W, refusal: Refusal) -> io::Result<(
     output.write_all(&room[..n])
 }
 
-// Fills the bytes from the input; false where it is too short.
-pub fn next_bytes<R: Read>(input: &mut R, bytes: &mut [u8]) -> io::Result<bool> {
+// Fills the bytes from the input; false where it is too short, which is no error: those are failed reads.
+pub fn next_bytes<R: Read>(input: &mut R, bytes: &mut [u8]) -> io::Result<bool>
+    ensures { IfErr result (λ e. error_kind e ≢ ErrorKind.UnexpectedEof) }
+{
     match input.read_exact(bytes) {
         Ok(()) => Ok(true),
         Err(error) if error.kind() == ErrorKind::UnexpectedEof => Ok(false),
