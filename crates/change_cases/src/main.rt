@@ -13,7 +13,7 @@ use entries::fill_numbers;
 use reporting::cases::{
     FILE, NO_VERDICT, NextCase, RESULTS, Sizes, VALUES, VERDICTS, next_both, next_case,
 };
-use std::io::{self, BufReader, BufWriter, Read, Write};
+use std::io::{self, Read, Write};
 use tables::check::check;
 use verdict_printing::{print_reply, print_verdicts};
 
@@ -124,12 +124,12 @@ fn run_case<R: Read, W: Write>(input: &mut R, output: &mut W) -> io::Result<bool
 
 // A proved loop has to end, and nothing says that the input does: so the turns are counted.
 fn main(rt: HostRuntime) -> io::Result<()> {
-    let mut input = BufReader::new(rt.alloc(), rt.stdin())?;
-    let mut output = BufWriter::new(rt.alloc(), rt.stdout())?;
+    let mut input = rt.stdin();
+    let mut output = rt.stdout();
     for _ in 0..u64::MAX {
         if !run_case(&mut input, &mut output)? {
             break;
         }
     }
-    output.flush()
+    Ok(())
 }

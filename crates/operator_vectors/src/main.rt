@@ -10,7 +10,7 @@ ghost use Rattle.std.specs.Prelude.{◌+◌, ◌≤◌};
 use arithmetic::Word;
 use arithmetic::numbering::operator_numbered;
 use operator::Applied;
-use std::io::{self, BufReader, BufWriter, Read, Write};
+use std::io::{self, Read, Write};
 
 // The bytes of a line, with its line end.
 const LINE: usize = 66;
@@ -58,12 +58,12 @@ fn run_vector<R: Read, W: Write>(input: &mut R, output: &mut W) -> io::Result<bo
 
 // A proved loop has to end, and nothing says that the input does: so the turns are counted.
 fn main(rt: HostRuntime) -> io::Result<()> {
-    let mut input = BufReader::new(rt.alloc(), rt.stdin())?;
-    let mut output = BufWriter::new(rt.alloc(), rt.stdout())?;
+    let mut input = rt.stdin();
+    let mut output = rt.stdout();
     for _ in 0..u64::MAX {
         if !run_vector(&mut input, &mut output)? {
             break;
         }
     }
-    output.flush()
+    Ok(())
 }

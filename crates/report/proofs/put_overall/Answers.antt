@@ -24,15 +24,3 @@ returns-in-Violated c = rw c.in-Violated.is c.put_count.ensures
 pub returns-in-Disregarded : goal.returns-in-Disregarded
 unfolding overall_text
 returns-in-Disregarded c = rw c.in-Disregarded.is c.put_count-in-Disregarded.ensures
-
--- TODO old:
--- slice-aggregate-put-bytes : tie.Need-slice-aggregate-put-bytes
--- slice-aggregate-put-bytes c = search rules
-
--- TODO old:
--- slice-aggregate-put-count : tie.Need-slice-aggregate-put-count
--- slice-aggregate-put-count c = search rules
-
--- TODO old:
--- slice-aggregate-put-count-2 : tie.Need-slice-aggregate-put-count-2
--- slice-aggregate-put-count-2 c = search rules

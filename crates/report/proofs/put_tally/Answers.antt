@@ -16,19 +16,3 @@ put_count-requires c = omega (arith, c.requires, tally_length c.args.tally)
 
 pub returns : goal.returns
 returns c = put_tally c.args.tally c.requires c.put_count-lines.ensures c.put_count-held.ensures c.put_count-violated.ensures c.put_count.ensures
-
--- TODO old:
--- slice-aggregate-put-count : tie.Need-slice-aggregate-put-count
--- slice-aggregate-put-count c = search rules
-
--- TODO old:
--- slice-aggregate-put-count-2 : tie.Need-slice-aggregate-put-count-2
--- slice-aggregate-put-count-2 c = search rules
-
--- TODO old:
--- slice-aggregate-put-count-3 : tie.Need-slice-aggregate-put-count-3
--- slice-aggregate-put-count-3 c = search rules
-
--- TODO old:
--- slice-aggregate-put-count-4 : tie.Need-slice-aggregate-put-count-4
--- slice-aggregate-put-count-4 c = search rules

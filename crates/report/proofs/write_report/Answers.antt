@@ -2,10 +2,10 @@ use Rattle.report.proofs.ReportLaws.{report_fits, report_written_lem}
 use Rattle.report.proofs.write_report.Goals as goal
 
 pub put_tallied-requires : goal.put_tallied-requires
-put_tallied-requires c = report_fits _ _ c.put_tallied-arg-1.given.0.1
+put_tallied-requires c = report_fits _ _ c.told-room
 
 pub put_refused-requires : goal.put_refused-requires
-put_refused-requires c = report_fits _ _ c.put_refused-arg-1.given.0.1
+put_refused-requires c = report_fits _ _ c.told-room
 
 pub returns-in-Tallied : goal.returns-in-Tallied
 returns-in-Tallied c = rw c.in-Tallied.is (report_written_lem _ c.put_tallied.ensures)

@@ -12,4 +12,4 @@ returns-then-w-lt-WORD_BITS c = let w = c.args.w in
 pub returns-else-w-lt-WORD_BITS : goal.returns-else-w-lt-WORD_BITS
 unfolding fits
 returns-else-w-lt-WORD_BITS c = let w = c.args.w in
-    sym (fits_wide w.value w.width c.struct_known-1.given.1.0.fits (omega arith))
+    sym (fits_wide w.value w.width (omega arith) (omega arith))

@@ -20,7 +20,3 @@ put_all_declared-requires c = let a = c.args in
 pub returns : goal.returns
 returns c = let a = c.args in
     put_declarations (variables_in a.file.now a.variables.now a.n) (λ e. c.if-n-eq0.false (sym (variables_length a.file.now a.variables.now a.n) ∙ e)) c.requires.2 c.put_bytes-first.ensures c.put_all_declared.ensures
-
--- TODO old:
--- slice-aggregate-put-bytes : tie.Need-slice-aggregate-put-bytes
--- slice-aggregate-put-bytes c = search rules

@@ -13,7 +13,3 @@ returns-in-NoExpectation c = rw c.in-NoExpectation.is (put_no_expectation _ _)
 
 pub returns-in-HasExpectation : goal.returns-in-HasExpectation
 returns-in-HasExpectation c = rw c.in-HasExpectation.is (put_expectation c.in-HasExpectation.n (rw c.in-HasExpectation.is at c.requires) c.put_bytes-number.ensures c.put_digits.ensures)
-
--- TODO old:
--- slice-aggregate-put-bytes : tie.Need-slice-aggregate-put-bytes
--- slice-aggregate-put-bytes c = search rules

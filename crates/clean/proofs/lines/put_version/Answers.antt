@@ -16,7 +16,3 @@ put_digits-requires c = omega (arith, c.requires, version_length c.args.e)
 
 pub returns : goal.returns
 returns c = put_version _ c.requires c.put_bytes-major.ensures c.put_digits-dot.ensures c.put_byte-minor.ensures c.put_digits.ensures
-
--- TODO old:
--- slice-aggregate-put-bytes : tie.Need-slice-aggregate-put-bytes
--- slice-aggregate-put-bytes c = search rules

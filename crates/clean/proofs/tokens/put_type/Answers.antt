@@ -10,7 +10,3 @@ put_below_hundred-requires c = (c.requires.0, omega (arith, c.requires.1, type_l
 
 pub returns : goal.returns
 returns c = put_type _ c.requires.1 c.put_bytes-digits.ensures c.put_below_hundred.ensures
-
--- TODO old:
--- slice-aggregate-put-bytes : tie.Need-slice-aggregate-put-bytes
--- slice-aggregate-put-bytes c = search rules

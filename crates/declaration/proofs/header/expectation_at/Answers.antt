@@ -13,11 +13,3 @@ returns-then-is_word-2 c = rw (sym c.is_word.ensures ∙ c.if-is_word.false, sym
 pub returns : goal.returns
 unfolding expectation_of
 returns c = rw (sym c.is_word.ensures ∙ c.if-is_word.false, sym c.is_word-2.ensures ∙ c.if-is_word-2.false)
-
--- TODO old:
--- slice-aggregate-is-word : tie.Need-slice-aggregate-is-word
--- slice-aggregate-is-word c = search rules
-
--- TODO old:
--- slice-aggregate-is-word-2 : tie.Need-slice-aggregate-is-word-2
--- slice-aggregate-is-word-2 c = search rules

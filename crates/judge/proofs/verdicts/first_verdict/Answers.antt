@@ -10,7 +10,7 @@ use Rattle.refusal.proofs.ListLaws.{not_there, first_here, first_later, first_no
 use Rattle.judge.proofs.verdicts.first_verdict.Goals as goal
 
 pub returns-then-not-has_verdict : goal.returns-then-not-has_verdict
-returns-then-not-has_verdict c = sym (not_there _ (sym (ap not c.has_verdict.ensures) ∙ c.if-not-has_verdict.true-raw))
+returns-then-not-has_verdict c = sym (not_there _ (ap not (sym c.has_verdict.ensures ∙ c.if-not-has_verdict.true)))
 
 pub loop-i-init : goal.loop-i-init
 unfolding first_verdict

@@ -56,11 +56,3 @@ returns-then-through c xs f =
 
 pub returns : goal.returns
 returns c xs f = rw c.if-through.false (c.renew.ensures xs f)
-
--- TODO old:
--- part-renew-listed-start : tie.Need-slice-bounds-renew-listed-start
--- part-renew-listed-start c = omega (arith, (fitting c.before.before.before.before).rises)
-
--- TODO old:
--- part-renew-listed-end : tie.Need-slice-bounds-renew-listed-end
--- part-renew-listed-end c = omega (arith, (fitting c.before.before.before.before).within)

@@ -9,11 +9,3 @@ put_bytes-requires c = omega (arith, c.requires, ap length (part_bytes c.part-na
 
 pub returns : goal.returns
 returns c = rw (part_bytes c.part-name.ensures) at c.put_bytes.ensures
-
--- TODO old:
--- part-put-bytes-start : tie.Need-slice-bounds-put-bytes-start
--- part-put-bytes-start c = search rules
-
--- TODO old:
--- part-put-bytes-end : tie.Need-slice-bounds-put-bytes-end
--- part-put-bytes-end c = search rules

@@ -16,11 +16,3 @@ put_count-requires c = omega (arith, c.requires, refusal_length c.args.refusal)
 
 pub returns : goal.returns
 returns c = put_refusal c.args.refusal c.requires c.put_count-numbered.ensures c.put_byte-word.ensures c.put_subject-named.ensures c.put_count.ensures
-
--- TODO old:
--- slice-aggregate-put-count : tie.Need-slice-aggregate-put-count
--- slice-aggregate-put-count c = search rules
-
--- TODO old:
--- slice-aggregate-put-count-2 : tie.Need-slice-aggregate-put-count-2
--- slice-aggregate-put-count-2 c = search rules

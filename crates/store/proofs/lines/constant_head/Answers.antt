@@ -5,7 +5,3 @@ use Rattle.store.proofs.lines.constant_head.Goals as goal
 pub returns : goal.returns
 unfolding head_width
 returns c = search rules
-
--- TODO old:
--- rem-result : tie.Need-nonzero-rem-result
--- rem-result c = search rules

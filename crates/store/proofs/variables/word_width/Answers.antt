@@ -5,7 +5,3 @@ use Rattle.store.proofs.variables.word_width.Goals as goal
 pub returns : goal.returns
 unfolding word_width
 returns c = search rules
-
--- TODO old:
--- rem-result : tie.Need-nonzero-rem-result
--- rem-result c = search rules

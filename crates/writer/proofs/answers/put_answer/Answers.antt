@@ -26,7 +26,3 @@ returns c = let start = c.put_bytes-word.ensures in
     let word = rw c.satisfiable.ensures at c.put_bytes-end.ensures in
     let end = c.put_byte-values.ensures in
     put_answer _ _ _ _ c.requires.2 start word end c.put_values.ensures
-
--- TODO old:
--- slice-aggregate-put-bytes-2 : tie.Need-slice-aggregate-put-bytes-2
--- slice-aggregate-put-bytes-2 c = search rules
