@@ -4,11 +4,11 @@ use Prim.Native.Char.{code}
 use mathlib.Core.Path.{◌≡◌, refl, sym, ap, subst, ◌∙◌}
 use mathlib.Core.Bool.{true, false, cond}
 use mathlib.Core.List.{List, [], ◌∷◌, map, flat_map, append-nil, nil≢cons, cons≢nil, head-eq_of_cons-eq, tail-eq_of_cons-eq}
-use mathlib.Core.Option.{Option}
+use Rattle.std.specs.Prelude.{Option}
 use native.Mathlib.Omega.{arith}
 use lib.ListN.{replicate}
 use Rattle.refusal.specs.declared.Subject.TheVariants.{Answer}
-use Rattle.refusal.specs.Result.{Result, accepted, ◌>>=◌}
+use Rattle.refusal.specs.Result.{Reply, Ok, ◌>>=◌}
 use Rattle.refusal.proofs.ResultLaws.{never, bind_accepted, bind_through}
 use Rattle.text.specs.Lines.{TextLine, Token, arguments, leads}
 use Rattle.text.specs.Reading.{read_any_line, read_lines}
@@ -32,14 +32,14 @@ pub record WithSolution (xs : List Variable) (vs us : List (Option ℕ)) (ls : L
   pub more : ℕ
   pub in_order : flat_map letter_of ls ≡ code "s" ∷ replicate more (code "v")
   pub says : map (λ t. t.bytes) (tokens_in (code "s") ls) ≡ satisfiable ∷ []
-  pub sets : read_settings xs vs (tokens_in (code "v") ls) ≡ accepted us
+  pub sets : read_settings xs vs (tokens_in (code "v") ls) ≡ Ok us
 
 -- lines behind the `s` line, likewise
 record BehindSolution (xs : List Variable) (vs us : List (Option ℕ)) (ls : List TextLine) : Type 0 where
   allowed : Each IsAllowed ls
   more : ℕ
   in_order : flat_map letter_of ls ≡ replicate more (code "v")
-  sets : read_settings xs vs (tokens_in (code "v") ls) ≡ accepted us
+  sets : read_settings xs vs (tokens_in (code "v") ls) ≡ Ok us
 
 -- letters that are all `v`: the first, and those behind it
 all_v : (letter : ℕ) (rest : List ℕ) (more : ℕ) → letter ∷ rest ≡ replicate more (code "v") → (letter ≡ code "v") × ((n : ℕ) × (rest ≡ replicate n (code "v")))
@@ -47,7 +47,7 @@ all_v letter rest zero e = absurd (cons≢nil e)
 all_v letter rest (suc n) e = (head-eq_of_cons-eq e, (n, tail-eq_of_cons-eq e))
 
 module _ (xs : List Variable) where
-  abbrev read_all : Settings → List TextLine → Result Settings
+  abbrev read_all : Settings → List TextLine → Reply Settings
   read_all = read_lines Answer (read_answer_line xs)
 
   -- `v` lines have no token of an `s` line
@@ -66,13 +66,13 @@ module _ (xs : List Variable) where
   module _ (l : TextLine) (ls : List TextLine) where
     module _ (a : IsAllowed l) where
       -- it is read first
-      line_first : {letter : List ℕ} {says sets : List Token} {read : Settings → Result Settings} (s : Settings) → IsLine xs l letter says sets read → read_all s (l ∷ ls) ≡ (read s >>= λ t. read_all t ls)
+      line_first : {letter : List ℕ} {says sets : List Token} {read : Settings → Reply Settings} (s : Settings) → IsLine xs l letter says sets read → read_all s (l ∷ ls) ≡ (read s >>= λ t. read_all t ls)
       unfolding read_lines read_any_line
       line_first s k = rw (a, k.read_is s)
 
       line_values : (vs : List (Option ℕ)) → IsValues xs l → read_all (settings_of true vs) (l ∷ ls) ≡ (read_settings xs vs (arguments l) >>= λ us. read_all (settings_of true us) ls)
       unfolding read_values
-      line_values vs k = line_first (settings_of true vs) k ∙ sym (bind_through (λ us. accepted (settings_of true us)) (λ t. read_all t ls) (λ us. read_all (settings_of true us) ls) (λ us. refl) (read_settings xs vs (arguments l)))
+      line_values vs k = line_first (settings_of true vs) k ∙ sym (bind_through (λ us. Ok (settings_of true us)) (λ t. read_all t ls) (λ us. read_all (settings_of true us) ls) (λ us. refl) (read_settings xs vs (arguments l)))
 
       -- what is said of the lines, from those behind it
       module _ (vs us : List (Option ℕ)) where
@@ -80,7 +80,7 @@ module _ (xs : List Variable) where
         unfolding tokens_in flat_map
         behind_skipped k h = record { allowed = (a, h.allowed); more = h.more; in_order = rw k.letter_is h.in_order; sets = rw k.sets_is h.sets }
 
-        behind_values : (ws : List (Option ℕ)) → IsValues xs l → read_settings xs vs (arguments l) ≡ accepted ws → BehindSolution xs ws us ls → BehindSolution xs vs us (l ∷ ls)
+        behind_values : (ws : List (Option ℕ)) → IsValues xs l → read_settings xs vs (arguments l) ≡ Ok ws → BehindSolution xs ws us ls → BehindSolution xs vs us (l ∷ ls)
         unfolding tokens_in flat_map
         behind_values ws k e h = record {
           allowed = (a, h.allowed);
@@ -104,7 +104,7 @@ module _ (xs : List Variable) where
         }
 
   -- ---- lines behind the `s` line: what is accepted of them, and that they are
-  behind_are : (ls : List TextLine) (vs : List (Option ℕ)) (s : Settings) → read_all (settings_of true vs) ls ≡ accepted s → (s.solved ≡ true) × BehindSolution xs vs s.values ls
+  behind_are : (ls : List TextLine) (vs : List (Option ℕ)) (s : Settings) → read_all (settings_of true vs) ls ≡ Ok s → (s.solved ≡ true) × BehindSolution xs vs s.values ls
   unfolding read_lines read_solution read_settings tokens_in flat_map
   behind_are [] vs s e = subst (λ (u : Settings). (u.solved ≡ true) × BehindSolution xs vs u.values []) (cc e) (refl, record { allowed = tt; more = 0; in_order = refl; sets = refl })
   behind_are (l ∷ ls) vs s e = go (line_kind xs l) (behind_are ls)
@@ -112,7 +112,7 @@ module _ (xs : List Variable) where
       a : IsAllowed l
       a = line_allowed Answer (read_answer_line xs) l ls (settings_of true vs) s e
 
-      go : LineKind xs l → ((us : List (Option ℕ)) (u : Settings) → read_all (settings_of true us) ls ≡ accepted u → (u.solved ≡ true) × BehindSolution xs us u.values ls) → (s.solved ≡ true) × BehindSolution xs vs s.values (l ∷ ls)
+      go : LineKind xs l → ((us : List (Option ℕ)) (u : Settings) → read_all (settings_of true us) ls ≡ Ok u → (u.solved ≡ true) × BehindSolution xs us u.values ls) → (s.solved ≡ true) × BehindSolution xs vs s.values (l ∷ ls)
       go (skipped k) ih = let p = ih vs s (sym (line_first l ls a (settings_of true vs) k) ∙ e) in (p.0, behind_skipped l ls a vs s.values k p.1)
       go (solution k) ih = never (cc (sym (line_first l ls a (settings_of true vs) k) ∙ e))
       go (values k) ih =
@@ -121,7 +121,7 @@ module _ (xs : List Variable) where
           (q.0, behind_values l ls a vs s.values p.0 k p.1 q.1)
       go (other k) ih = never (cc (sym (line_first l ls a (settings_of true vs) k) ∙ e))
 
-  behind_accepted : (ls : List TextLine) (vs us : List (Option ℕ)) → BehindSolution xs vs us ls → read_all (settings_of true vs) ls ≡ accepted (settings_of true us)
+  behind_accepted : (ls : List TextLine) (vs us : List (Option ℕ)) → BehindSolution xs vs us ls → read_all (settings_of true vs) ls ≡ Ok (settings_of true us)
   unfolding read_lines read_settings tokens_in flat_map
   behind_accepted [] vs us h = let z : vs ≡ us = cc h.sets in rw z
   behind_accepted (l ∷ ls) vs us h = go (line_kind xs l) (behind_accepted ls)
@@ -129,7 +129,7 @@ module _ (xs : List Variable) where
       a : IsAllowed l
       a = h.allowed.0
 
-      go : LineKind xs l → ((ws ys : List (Option ℕ)) → BehindSolution xs ws ys ls → read_all (settings_of true ws) ls ≡ accepted (settings_of true ys)) → read_all (settings_of true vs) (l ∷ ls) ≡ accepted (settings_of true us)
+      go : LineKind xs l → ((ws ys : List (Option ℕ)) → BehindSolution xs ws ys ls → read_all (settings_of true ws) ls ≡ Ok (settings_of true ys)) → read_all (settings_of true vs) (l ∷ ls) ≡ Ok (settings_of true us)
       go (skipped k) ih = line_first l ls a (settings_of true vs) k ∙ ih vs us (record { allowed = h.allowed.1; more = h.more; in_order = rw k.letter_is at h.in_order; sets = rw k.sets_is at h.sets })
       go (solution k) ih = absurd (omega (arith, (all_v (code "s") _ h.more (rw k.letter_is at h.in_order)).0))
       go (values k) ih =
@@ -139,7 +139,7 @@ module _ (xs : List Variable) where
       go (other k) ih = absurd (omega (arith, (all_v 0 _ h.more (rw k.letter_is at h.in_order)).0))
 
   -- ---- lines with the `s` line: what is accepted of them, and that they are
-  pub lines_are : (ls : List TextLine) (vs : List (Option ℕ)) (s : Settings) → read_lines Answer (read_answer_line xs) (settings_of false vs) ls ≡ accepted s → s.solved ≡ true → WithSolution xs vs s.values ls
+  pub lines_are : (ls : List TextLine) (vs : List (Option ℕ)) (s : Settings) → read_lines Answer (read_answer_line xs) (settings_of false vs) ls ≡ Ok s → s.solved ≡ true → WithSolution xs vs s.values ls
   unfolding read_lines read_values
   lines_are [] vs s e d = never (cc (e, d))
   lines_are (l ∷ ls) vs s e d = go (line_kind xs l) (lines_are ls vs s)
@@ -147,7 +147,7 @@ module _ (xs : List Variable) where
       a : IsAllowed l
       a = line_allowed Answer (read_answer_line xs) l ls (settings_of false vs) s e
 
-      go : LineKind xs l → (read_all (settings_of false vs) ls ≡ accepted s → s.solved ≡ true → WithSolution xs vs s.values ls) → WithSolution xs vs s.values (l ∷ ls)
+      go : LineKind xs l → (read_all (settings_of false vs) ls ≡ Ok s → s.solved ≡ true → WithSolution xs vs s.values ls) → WithSolution xs vs s.values (l ∷ ls)
       go (skipped k) ih = with_skipped l ls a vs s.values k (ih (sym (line_first l ls a (settings_of false vs) k) ∙ e) d)
       go (solution k) ih =
           let p = bind_accepted (read_solution (settings_of false vs) l) _ s (sym (line_first l ls a (settings_of false vs) k) ∙ e) in
@@ -156,7 +156,7 @@ module _ (xs : List Variable) where
       go (values k) ih = never (cc (sym (line_first l ls a (settings_of false vs) k) ∙ e))
       go (other k) ih = never (cc (sym (line_first l ls a (settings_of false vs) k) ∙ e))
 
-  pub lines_accepted : (ls : List TextLine) (vs us : List (Option ℕ)) → WithSolution xs vs us ls → read_lines Answer (read_answer_line xs) (settings_of false vs) ls ≡ accepted (settings_of true us)
+  pub lines_accepted : (ls : List TextLine) (vs us : List (Option ℕ)) → WithSolution xs vs us ls → read_lines Answer (read_answer_line xs) (settings_of false vs) ls ≡ Ok (settings_of true us)
   unfolding tokens_in flat_map
   lines_accepted [] vs us h = absurd (nil≢cons h.in_order)
   lines_accepted (l ∷ ls) vs us h = go (line_kind xs l) (lines_accepted ls vs us)
@@ -164,7 +164,7 @@ module _ (xs : List Variable) where
       a : IsAllowed l
       a = h.allowed.0
 
-      go : LineKind xs l → (WithSolution xs vs us ls → read_all (settings_of false vs) ls ≡ accepted (settings_of true us)) → read_all (settings_of false vs) (l ∷ ls) ≡ accepted (settings_of true us)
+      go : LineKind xs l → (WithSolution xs vs us ls → read_all (settings_of false vs) ls ≡ Ok (settings_of true us)) → read_all (settings_of false vs) (l ∷ ls) ≡ Ok (settings_of true us)
       go (skipped k) ih = line_first l ls a (settings_of false vs) k ∙ ih (record { allowed = h.allowed.1; more = h.more; in_order = rw k.letter_is at h.in_order; says = rw k.says_is at h.says; sets = rw k.sets_is at h.sets })
       go (solution k) ih =
           let in_order = tail-eq_of_cons-eq (rw k.letter_is at h.in_order) in

@@ -6,7 +6,7 @@ use mathlib.Core.Bool.{Bool, true, false, cond}
 use mathlib.Core.List.{List, [], ◌∷◌, ◌++◌, flat_map}
 use lib.ListN.{length, get_or}
 use Rattle.edition.specs.declared.Edition.{Edition}
-use Rattle.refusal.specs.Result.{accepted}
+use Rattle.refusal.specs.Result.{Ok}
 use Rattle.text.specs.Bytes.{same}
 use Rattle.text.specs.Lines.{Token}
 use Rattle.text.specs.Spelling.{decimal}
@@ -50,11 +50,11 @@ module _ (e : Edition) (xs : List Variable) (sound : Each (SoundVariable e) xs) 
     value_fits answer row s = (rw (s.once i declared) at (tokens_fit (tokens_of (code "v") answer) s.no_other)).0
 
 -- an accepted answer has a value for each variable, and the value fits
-pub answer_fits : (e : Edition) (xs : List Variable) (answer row : List ℕ) → Each (SoundVariable e) xs → Distinct xs → read_answer xs answer ≡ accepted row → (length row ≡ length xs) × ((i : ℕ) → i < length xs → get_or row i 0 < 2 ^ width_at xs i)
+pub answer_fits : (e : Edition) (xs : List Variable) (answer row : List ℕ) → Each (SoundVariable e) xs → Distinct xs → read_answer xs answer ≡ Ok row → (length row ≡ length xs) × ((i : ℕ) → i < length xs → get_or row i 0 < 2 ^ width_at xs i)
 answer_fits e xs answer row sound distinct q =
     let s = (accepts_exactly e xs answer row sound distinct).0 q in
     (s.one_for_each, λ i h. value_fits e xs sound distinct i h answer row s)
 
 -- so the row fits, as the results of the lines need it
-pub row_fits_answer : (e : Edition) (xs : List Variable) (answer row : List ℕ) → Each (SoundVariable e) xs → Distinct xs → read_answer xs answer ≡ accepted row → RowFits xs row
+pub row_fits_answer : (e : Edition) (xs : List Variable) (answer row : List ℕ) → Each (SoundVariable e) xs → Distinct xs → read_answer xs answer ≡ Ok row → RowFits xs row
 row_fits_answer e xs answer row sound distinct q = let p = answer_fits e xs answer row sound distinct q in fits_none xs row p.0 p.1

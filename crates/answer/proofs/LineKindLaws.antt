@@ -8,9 +8,9 @@ use native.Mathlib.Omega.{arith}
 use lib.Dec.{eqb}
 use lib.ListN.{get_or}
 use borrow.Author.Tests.{eqb-true}
-use Rattle.refusal.specs.Numbers.{unknown_line}
+use Rattle.refusal.specs.declared.Fault.TheVariants.{UnknownLine}
 use Rattle.refusal.specs.Lists.{every}
-use Rattle.refusal.specs.Result.{Result, accepted, refused}
+use Rattle.refusal.specs.Result.{Reply, Ok, Err}
 use Rattle.refusal.proofs.ResultLaws.{never}
 use Rattle.refusal.proofs.BoolLaws.{and_true, fails}
 use Rattle.text.specs.Bytes.{is_space}
@@ -38,15 +38,15 @@ leads_blank b (c ∷ s) n e =
     fails (leads b (c ∷ s)) (λ k. let z : is_space b ≡ true = rw (leads_first b (c ∷ s) k) space in never (cc (n, z)))
 
 -- a line has the letter, the tokens as an `s` line and those as a `v` line; and so it is read, once its bytes are allowed
-pub record IsLine (xs : List Variable) (l : TextLine) (letter : List ℕ) (says sets : List Token) (read : Settings → Result Settings) : Type 0 where
+pub record IsLine (xs : List Variable) (l : TextLine) (letter : List ℕ) (says sets : List Token) (read : Settings → Reply Settings) : Type 0 where
   pub letter_is : letter_of l ≡ letter
   pub says_is : cond (leads (code "s") l.bytes) (arguments l) [] ≡ says
   pub sets_is : cond (leads (code "v") l.bytes) (arguments l) [] ≡ sets
-  pub read_is : (s : Settings) → cond (every is_space l.bytes) (accepted s) (read_answer_line xs s l) ≡ read s
+  pub read_is : (s : Settings) → cond (every is_space l.bytes) (Ok s) (read_answer_line xs s l) ≡ read s
 
 -- the kinds: blank or a comment, an `s` line, a `v` line, and of no kind
 abbrev pub IsSkipped : List Variable → TextLine → Type 0
-IsSkipped xs l = IsLine xs l [] [] [] accepted
+IsSkipped xs l = IsLine xs l [] [] [] Ok
 
 abbrev pub IsSolution : List Variable → TextLine → Type 0
 IsSolution xs l = IsLine xs l (code "s" ∷ []) (arguments l) [] (λ s. read_solution s l)
@@ -55,7 +55,7 @@ abbrev pub IsValues : List Variable → TextLine → Type 0
 IsValues xs l = IsLine xs l (code "v" ∷ []) [] (arguments l) (λ s. read_values xs s l)
 
 abbrev pub IsOther : List Variable → TextLine → Type 0
-IsOther xs l = IsLine xs l (0 ∷ []) [] [] (λ s. refused (at_answer_line l unknown_line))
+IsOther xs l = IsLine xs l (0 ∷ []) [] [] (λ s. Err (at_answer_line l UnknownLine))
 
 pub data LineKind (xs : List Variable) (l : TextLine) : Type 0 where
   skipped : IsSkipped xs l → LineKind xs l

@@ -12,7 +12,7 @@ use borrow.Author.Tests.{ltb-true, le-leb, lt-ltb}
 use Rattle.edition.specs.declared.Edition.{Edition}
 use Rattle.edition.specs.Edition.{max_name_bytes, max_width}
 use Rattle.refusal.specs.Lists.{every}
-use Rattle.refusal.specs.Result.{accepted}
+use Rattle.refusal.specs.Result.{Ok}
 use Rattle.refusal.proofs.ResultLaws.{Yields, yields_accepted, yields_ensure, yields_both, yields_given}
 use Rattle.text.specs.Lines.{Token}
 use Rattle.text.specs.Spelling.{is_name, is_numeral, decimal, max_digits, number_bound, up_to, behind}
@@ -58,7 +58,7 @@ module _ (xs : List Variable) (t : Token) where
         value_is = refl;
       })
 
-  pub setting_is : (i v : ℕ) → setting_of xs t ≡ accepted (i, v) → SetsTo xs t i v
+  pub setting_is : (i v : ℕ) → setting_of xs t ≡ Ok (i, v) → SetsTo xs t i v
   setting_is i v = setting_yields.holds (i, v)
 
 -- ---- a setting of sound variables is accepted
@@ -81,7 +81,7 @@ module _ (e : Edition) (xs : List Variable) (sound : Each (SoundVariable e) xs) 
 
   -- a token that sets a variable is accepted
   module _ (distinct : Distinct xs) (t : Token) where
-    taken : (h : IsSetting xs t) → setting_of xs t ≡ accepted (h.variable, decimal h.value_digits)
+    taken : (h : IsSetting xs t) → setting_of xs t ≡ Ok (h.variable, decimal h.value_digits)
     unfolding setting_of
     taken h =
         let i = h.variable in
@@ -89,5 +89,5 @@ module _ (e : Edition) (xs : List Variable) (sound : Each (SoundVariable e) xs) 
         let bound : decimal h.value_digits < number_bound = omega (arith, h.value_fits, pow_mono (width_most i h.declared)) in
         rw (setting_name t h, setting_digits t h, s.0, h.numeral, lt-ltb (decimal h.value_digits) number_bound bound, le-leb (length (name_at xs i)) max_name_bytes s.1, named_at xs distinct i h.declared, lt-ltb (decimal h.value_digits) (2 ^ width_at xs i) h.value_fits)
 
-    pub setting_accepted : (i v : ℕ) → SetsTo xs t i v → setting_of xs t ≡ accepted (i, v)
+    pub setting_accepted : (i v : ℕ) → SetsTo xs t i v → setting_of xs t ≡ Ok (i, v)
     setting_accepted i v h = taken h.setting ∙ rw (h.number_is, h.value_is)

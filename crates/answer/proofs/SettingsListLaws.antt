@@ -4,15 +4,14 @@ use Prim.Native.Char.{code}
 use mathlib.Core.Path.{◌≡◌, refl, sym, ap, ◌∙◌}
 use mathlib.Core.Logic.{◌≢◌}
 use mathlib.Core.Bool.{not, cond}
-use mathlib.Core.List.{List, [], ◌∷◌, ◌++◌, flat_map, Option-to_list, append-nil}
-use mathlib.Core.Option.{Option, none, some}
+use mathlib.Core.List.{List, [], ◌∷◌, ◌++◌, flat_map, append-nil}
+use Rattle.std.specs.Prelude.{Option, None, Some, option_to_list, is_some}
 use native.Mathlib.Decide.{ℕ_discrete}
 use native.Mathlib.Omega.{arith}
 use lib.ListN.{length, get_or, set, length-set}
 use lib.Seq.{get_or-set_same, get_or-set_other, ext_get_or}
 use Rattle.edition.specs.declared.Edition.{Edition}
-use Rattle.refusal.specs.Lists.{is_there}
-use Rattle.refusal.specs.Result.{accepted, ◌>>=◌}
+use Rattle.refusal.specs.Result.{Ok, ◌>>=◌}
 use Rattle.refusal.proofs.ResultLaws.{never, Yields, yields_accepted, yields_bind, yields_ensure, yields_also, bind_through}
 use Rattle.refusal.proofs.ListLaws.{not_there}
 use Rattle.text.specs.Bytes.{same}
@@ -34,36 +33,34 @@ values_in name = flat_map (λ t. cond (same (up_to (code "=") t.bytes) name) (de
 pub record SetsAll (xs : List Variable) (vs us : List (Option ℕ)) (ts : List Token) : Type 0 where
   pub no_other : Each (IsSetting xs) ts
   pub long : length us ≡ length vs
-  pub values : (i : ℕ) → i < length xs → Option-to_list (get_or us i none) ≡ Option-to_list (get_or vs i none) ++ values_in (name_at xs i) ts
+  pub values : (i : ℕ) → i < length xs → option_to_list (get_or us i None) ≡ option_to_list (get_or vs i None) ++ values_in (name_at xs i) ts
 
 -- ---- one token
 -- it sets a variable that is not set
 record SetsOne (xs : List Variable) (vs us : List (Option ℕ)) (t : Token) : Type 0 where
   setting : IsSetting xs t
-  unset : get_or vs setting.variable none ≡ none
-  is_set : us ≡ set vs setting.variable (some (decimal setting.value_digits))
+  unset : get_or vs setting.variable None ≡ None
+  is_set : us ≡ set vs setting.variable (Some (decimal setting.value_digits))
 
 one_yields : (xs : List Variable) (vs : List (Option ℕ)) (t : Token) → Yields (λ us. SetsOne xs vs us t) (read_setting xs vs t)
 unfolding read_setting
 one_yields xs vs t =
     yields_bind (setting_yields xs t) λ p h.
-    yields_ensure (not (is_there (get_or vs p.0 none))) _ λ n.
-    yields_accepted (record { setting = h.setting; unset = rw h.number_is (not_there (get_or vs p.0 none) n); is_set = rw (h.number_is, h.value_is) })
+    yields_ensure (not (is_some (get_or vs p.0 None))) _ λ n.
+    yields_accepted (record { setting = h.setting; unset = rw h.number_is (not_there (get_or vs p.0 None) n); is_set = rw (h.number_is, h.value_is) })
 
 -- a variable has one value at most
-one_value : (o p : Option ℕ) (v : ℕ) (rest : List ℕ) → Option-to_list o ≡ Option-to_list p ++ (v ∷ rest) → p ≡ none
-unfolding Option-to_list
-one_value o none v rest e = refl
-one_value none (some w) v rest e = never (cc e)
-one_value (some u) (some w) v rest e = never (cc e)
+one_value : (o p : Option ℕ) (v : ℕ) (rest : List ℕ) → option_to_list o ≡ option_to_list p ++ (v ∷ rest) → p ≡ None
+one_value o None v rest e = refl
+one_value None (Some w) v rest e = never (cc e)
+one_value (Some u) (Some w) v rest e = never (cc e)
 
 -- and the same value where the tokens give none
-no_more_values : (o p : Option ℕ) → Option-to_list o ≡ Option-to_list p → o ≡ p
-unfolding Option-to_list
-no_more_values none none e = refl
-no_more_values none (some w) e = never (cc e)
-no_more_values (some u) none e = never (cc e)
-no_more_values (some u) (some w) e = let z : u ≡ w = cc e in ap some z
+no_more_values : (o p : Option ℕ) → option_to_list o ≡ option_to_list p → o ≡ p
+no_more_values None None e = refl
+no_more_values None (Some w) e = never (cc e)
+no_more_values (Some u) None e = never (cc e)
+no_more_values (Some u) (Some w) e = let z : u ≡ w = cc e in ap Some z
 
 module _ (e : Edition) (xs : List Variable) (sound : Each (SoundVariable e) xs) (distinct : Distinct xs) where
   -- a token in front of others gives its variable its value, and the other variables none
@@ -77,17 +74,16 @@ module _ (e : Edition) (xs : List Variable) (sound : Each (SoundVariable e) xs) 
     values_elsewhere i b n = rw (setting_name e xs sound t h, same_false (name_at xs h.variable) (name_at xs i) (λ q. n (same_number xs distinct i h.variable b h.declared (sym q))))
 
     -- where the variable is not set, it may as well be set before them
-    module _ (vs : List (Option ℕ)) (long : length vs ≡ length xs) (unset : get_or vs h.variable none ≡ none) where
-      values_step : (i : ℕ) → i < length xs → Option-to_list (get_or (set vs h.variable (some (decimal h.value_digits))) i none) ++ values_in (name_at xs i) ts ≡ Option-to_list (get_or vs i none) ++ values_in (name_at xs i) (t ∷ ts)
-      unfolding Option-to_list
+    module _ (vs : List (Option ℕ)) (long : length vs ≡ length xs) (unset : get_or vs h.variable None ≡ None) where
+      values_step : (i : ℕ) → i < length xs → option_to_list (get_or (set vs h.variable (Some (decimal h.value_digits))) i None) ++ values_in (name_at xs i) ts ≡ option_to_list (get_or vs i None) ++ values_in (name_at xs i) (t ∷ ts)
       values_step i b =
           let j = h.variable in
           elim (ℕ_discrete i j) [
-            | yes p ↦ (let k : j < length vs = omega (arith, h.declared) in rw (p, get_or-set_same vs j (some (decimal h.value_digits)) none k, unset, values_here))
-            | no p ↦ rw (get_or-set_other vs j i (some (decimal h.value_digits)) none p, values_elsewhere i b p)
+            | yes p ↦ (let k : j < length vs = omega (arith, h.declared) in rw (p, get_or-set_same vs j (Some (decimal h.value_digits)) None k, unset, values_here))
+            | no p ↦ rw (get_or-set_other vs j i (Some (decimal h.value_digits)) None p, values_elsewhere i b p)
           ]
 
-      one_accepted : read_setting xs vs t ≡ accepted (set vs h.variable (some (decimal h.value_digits)))
+      one_accepted : read_setting xs vs t ≡ Ok (set vs h.variable (Some (decimal h.value_digits)))
       unfolding read_setting
       one_accepted = rw (setting_accepted e xs sound distinct t h.variable (decimal h.value_digits) (record { setting = h; number_is = refl; value_is = refl }), unset)
 
@@ -95,23 +91,23 @@ module _ (e : Edition) (xs : List Variable) (sound : Each (SoundVariable e) xs) 
   -- what is accepted sets all
   settings_yield : (ts : List Token) (vs : List (Option ℕ)) → length vs ≡ length xs → Yields (λ us. SetsAll xs vs us ts) (read_settings xs vs ts)
   unfolding read_settings values_in flat_map
-  settings_yield [] vs l = yields_accepted (record { no_other = tt; long = refl; values = λ i h. sym (append-nil (Option-to_list (get_or vs i none))) })
+  settings_yield [] vs l = yields_accepted (record { no_other = tt; long = refl; values = λ i h. sym (append-nil (option_to_list (get_or vs i None))) })
   settings_yield (t ∷ ts) vs l = yields_bind (one_yields xs vs t) λ ws p.
       let k : length ws ≡ length vs = ap length p.is_set ∙ length-set vs _ _ in
       yields_also (λ us h. record { no_other = (p.setting, h.no_other); long = h.long ∙ k; values = λ i b. h.values i b ∙ rw p.is_set (values_step t p.setting ts vs l p.unset i b) }) (settings_yield ts ws (k ∙ l))
 
-  pub settings_are : (ts : List Token) (vs us : List (Option ℕ)) → length vs ≡ length xs → read_settings xs vs ts ≡ accepted us → SetsAll xs vs us ts
+  pub settings_are : (ts : List Token) (vs us : List (Option ℕ)) → length vs ≡ length xs → read_settings xs vs ts ≡ Ok us → SetsAll xs vs us ts
   settings_are ts vs us l = (settings_yield ts vs l).holds us
 
   -- what sets all is accepted
-  pub settings_accepted : (ts : List Token) (vs us : List (Option ℕ)) → length vs ≡ length xs → SetsAll xs vs us ts → read_settings xs vs ts ≡ accepted us
+  pub settings_accepted : (ts : List Token) (vs us : List (Option ℕ)) → length vs ≡ length xs → SetsAll xs vs us ts → read_settings xs vs ts ≡ Ok us
   unfolding read_settings values_in flat_map
-  settings_accepted [] vs us l h = ap accepted (ext_get_or none vs us (sym h.long) (λ i b. sym (no_more_values _ _ (h.values i (omega arith) ∙ append-nil _))))
+  settings_accepted [] vs us l h = ap Ok (ext_get_or None vs us (sym h.long) (λ i b. sym (no_more_values _ _ (h.values i (omega arith) ∙ append-nil _))))
   settings_accepted (t ∷ ts) vs us l h =
       let s = h.no_other.0 in
       let j = s.variable in
-      let unset = one_value (get_or us j none) (get_or vs j none) _ _ (h.values j s.declared ∙ ap (λ (r : List ℕ). Option-to_list (get_or vs j none) ++ r) (values_here t s ts)) in
-      let ws = set vs j (some (decimal s.value_digits)) in
+      let unset = one_value (get_or us j None) (get_or vs j None) _ _ (h.values j s.declared ∙ ap (λ (r : List ℕ). option_to_list (get_or vs j None) ++ r) (values_here t s ts)) in
+      let ws = set vs j (Some (decimal s.value_digits)) in
       let k : length ws ≡ length vs = length-set vs _ _ in
       rw (one_accepted t s ts vs l unset) (settings_accepted ts ws us (k ∙ l) (record { no_other = h.no_other.1; long = h.long ∙ sym k; values = λ i b. h.values i b ∙ sym (values_step t s ts vs l unset i b) }))
 

@@ -1,7 +1,8 @@
 // Reading an answer into a row of values, line by line.
-ghost use Rattle.std.specs.Prelude.{◌≡◌, true, false, List, ℕ, ◌<◌, ◌≤◌, length, drop};
+ghost use Rattle.std.specs.Prelude.{◌≡◌, true, false, cond, ℕ, ◌<◌, ◌≤◌, length, take, drop};
 ghost use Rattle.edition.specs.Edition.{max_variables};
-ghost use Rattle.refusal.specs.Lists.{is_there, every};
+ghost use Rattle.refusal.specs.Lists.{every};
+ghost use Rattle.refusal.specs.Result.{accepted_as};
 ghost use Rattle.refusal.specs.declared.Subject.TheVariants.{Answer};
 ghost use Rattle.text.specs.Lines.{text_lines};
 ghost use Rattle.text.specs.Reading.{read_any_line, read_lines};
@@ -10,15 +11,14 @@ ghost use Rattle.text.specs.Scan.{line_at};
 ghost use Rattle.store.specs.Names.{Searchable};
 ghost use Rattle.store.specs.Tables.{variables_in};
 ghost use Rattle.answer.specs.Read.{settings_of, answer_kind, read_answer_line, all_set, read_answer};
-ghost use Rattle.answer.specs.Internal.{entries_in, SettingsSized, answer_step, answer_result};
 
+use super::AnswerLine;
 use super::settings::value_line;
-use super::solutions::{refusal, solution_line};
-use super::{AnswerLine, AnswerProgress, AnswerRead};
+use super::solutions::solution_line;
 use edition::Edition;
-use refusal::Refusal;
+use refusal::{Fault, Refusal, Subject};
+use text::Class;
 use text::scan::{all, find_line, leads};
-use text::{Class, LineFound};
 
 // The kind of the line from `at` to the end.
 fn kind_of(line: &[u8], at: usize) -> AnswerLine
@@ -37,25 +37,24 @@ fn kind_of(line: &[u8], at: usize) -> AnswerLine
     AnswerLine::OfNoKind
 }
 
-// Reads the line from `at` to the end; it is not blank.
+// Reads the line from `at` to the end; it is not blank. Answers whether the `s` line is read.
 fn read_line(
     file: &[u8],
     variables: &[u64; Edition::VARIABLES],
     n: usize,
     line: &[u8],
     at: usize,
-    flags: &mut [u8; Edition::VARIABLES],
-    values: &mut [u64; Edition::VARIABLES],
+    settings: &mut [Option<u64>; Edition::VARIABLES],
     solved: bool,
-) -> AnswerProgress
-    requires { (at < length line.now) × (n ≤ max_variables) × Searchable file.now variables.now n × SettingsSized flags.old values.old }
-    ensures { ((next : ℕ) → answer_step (entries_in flags.new values.new n) result ≡ read_answer_line (variables_in file.now variables.now n) (settings_of solved (entries_in flags.old values.old n)) (line_at line.now at next)) × SettingsSized flags.new values.new }
+) -> Result<bool, Refusal>
+    requires { (at < length line.now) × (n ≤ max_variables) × Searchable file.now variables.now n × (length settings.old ≡ max_variables) }
+    ensures { ((next : ℕ) → accepted_as (λ s. settings_of s (take n settings.new)) result ≡ read_answer_line (variables_in file.now variables.now n) (settings_of solved (take n settings.old)) (line_at line.now at next)) × (length settings.new ≡ max_variables) }
 {
     match kind_of(line, at) {
-        AnswerLine::OfComment => AnswerProgress::Next(solved),
+        AnswerLine::OfComment => Ok(solved),
         AnswerLine::OfSolution => solution_line(line, at, solved),
-        AnswerLine::OfValues => value_line(file, variables, n, line, at, flags, values, solved),
-        AnswerLine::OfNoKind => AnswerProgress::Stop(refusal(Refusal::UNKNOWN_LINE, at)),
+        AnswerLine::OfValues => value_line(file, variables, n, line, at, settings, solved),
+        AnswerLine::OfNoKind => Err(Refusal::of(Subject::Answer, Fault::UnknownLine, at)),
     }
 }
 
@@ -66,65 +65,59 @@ fn read_any_line(
     n: usize,
     line: &[u8],
     at: usize,
-    flags: &mut [u8; Edition::VARIABLES],
-    values: &mut [u64; Edition::VARIABLES],
+    settings: &mut [Option<u64>; Edition::VARIABLES],
     solved: bool,
-) -> AnswerProgress
-    requires { (at ≤ length line.now) × (n ≤ max_variables) × Searchable file.now variables.now n × SettingsSized flags.old values.old × (every is_allowed (drop at line.now) ≡ true) }
-    ensures { ((next : ℕ) → answer_step (entries_in flags.new values.new n) result ≡ read_any_line Answer (read_answer_line (variables_in file.now variables.now n)) (settings_of solved (entries_in flags.old values.old n)) (line_at line.now at next)) × SettingsSized flags.new values.new }
+) -> Result<bool, Refusal>
+    requires { (at ≤ length line.now) × (n ≤ max_variables) × Searchable file.now variables.now n × (length settings.old ≡ max_variables) × (every is_allowed (drop at line.now) ≡ true) }
+    ensures { ((next : ℕ) → accepted_as (λ s. settings_of s (take n settings.new)) result ≡ read_any_line Answer (read_answer_line (variables_in file.now variables.now n)) (settings_of solved (take n settings.old)) (line_at line.now at next)) × (length settings.new ≡ max_variables) }
 {
     if all(line, at, Class::Space) {
-        return AnswerProgress::Next(solved);
+        return Ok(solved);
     }
-    read_line(file, variables, n, line, at, flags, values, solved)
+    read_line(file, variables, n, line, at, settings, solved)
 }
 
-// Reads all lines.
+// Reads all lines, and answers whether the `s` line is among them.
 fn read_lines(
     file: &[u8],
     variables: &[u64; Edition::VARIABLES],
     n: usize,
     answer: &[u8],
-    flags: &mut [u8; Edition::VARIABLES],
-    values: &mut [u64; Edition::VARIABLES],
-) -> AnswerProgress
-    requires { (n ≤ max_variables) × Searchable file.now variables.now n × SettingsSized flags.old values.old }
-    ensures { (answer_step (entries_in flags.new values.new n) result ≡ read_lines Answer (read_answer_line (variables_in file.now variables.now n)) (settings_of false (entries_in flags.old values.old n)) (text_lines answer.now)) × SettingsSized flags.new values.new }
+    settings: &mut [Option<u64>; Edition::VARIABLES],
+) -> Result<bool, Refusal>
+    requires { (n ≤ max_variables) × Searchable file.now variables.now n × (length settings.old ≡ max_variables) }
+    ensures { (accepted_as (λ s. settings_of s (take n settings.new)) result ≡ read_lines Answer (read_answer_line (variables_in file.now variables.now n)) (settings_of false (take n settings.old)) (text_lines answer.now)) × (length settings.new ≡ max_variables) }
 {
     let mut solved = false;
     let mut i = 0;
     while i < answer.len() {
-        match find_line(answer, i) {
-            LineFound::Faulty(bad) => {
-                return AnswerProgress::Stop(refusal(Refusal::BYTE_NOT_ALLOWED, bad));
-            }
-            LineFound::Ends(stop, next) => {
-                let cut = &answer[..stop];
-                match read_any_line(file, variables, n, cut, i, flags, values, solved) {
-                    AnswerProgress::Stop(r) => {
-                        return AnswerProgress::Stop(r);
-                    }
-                    AnswerProgress::Next(s) => {
-                        solved = s;
-                    }
-                }
-                i = next;
-            }
-        }
+        let line = find_line(answer, i).map_err(|bad| Refusal::of(
+            Subject::Answer,
+            Fault::ByteNotAllowed,
+            bad,
+        ))?;
+        let cut = &answer[..line.stop];
+        solved = read_any_line(file, variables, n, cut, i, settings, solved)?;
+        i = line.next;
     }
-    AnswerProgress::Next(solved)
+    Ok(solved)
 }
 
-// Whether the first n variables are set.
-fn all_set(flags: &[u8; Edition::VARIABLES], n: usize) -> bool
-    requires { (n ≤ max_variables) × (length flags.now ≡ max_variables) }
-    ensures { (values : List ℕ) → result ≡ is_there (all_set (entries_in flags.now values n)) }
+// Puts the values of the first n variables into the row, and answers whether all are set.
+fn all_set(
+    settings: &[Option<u64>; Edition::VARIABLES],
+    n: usize,
+    row: &mut [u64; Edition::VARIABLES],
+) -> bool
+    requires { (n ≤ max_variables) × (length settings.now ≡ max_variables) × (length row.old ≡ max_variables) }
+    ensures { (all_set (take n settings.now) ≡ cond result (Some (take n row.new)) None) × (length row.new ≡ max_variables) }
 {
     let mut i = 0;
     while i < n {
-        if flags[i] == 0 {
+        let Some(v) = settings[i] else {
             return false;
-        }
+        };
+        row[i] = v;
         i += 1;
     }
     true
@@ -137,24 +130,20 @@ pub fn read_answer(
     n: usize,
     answer: &[u8],
     row: &mut [u64; Edition::VARIABLES],
-) -> AnswerRead
+) -> Result<(), Refusal>
     requires { (n ≤ max_variables) × Searchable file.now variables.now n × (length row.old ≡ max_variables) }
-    ensures { (answer_result row.new n result ≡ read_answer (variables_in file.now variables.now n) answer.now) × (length row.new ≡ max_variables) }
+    ensures { (accepted_as (λ done. take n row.new) result ≡ read_answer (variables_in file.now variables.now n) answer.now) × (length row.new ≡ max_variables) }
 {
     if Edition::FILE_BYTES < answer.len() {
-        return AnswerRead::Fault(refusal(Refusal::FILE_TOO_LONG, Edition::FILE_BYTES));
+        return Err(Refusal::of(Subject::Answer, Fault::FileTooLong, Edition::FILE_BYTES));
     }
-    let mut flags = [0u8; Edition::VARIABLES];
-    match read_lines(file, variables, n, answer, &mut flags, row) {
-        AnswerProgress::Stop(r) => AnswerRead::Fault(r),
-        AnswerProgress::Next(solved) => {
-            if !solved {
-                return AnswerRead::Fault(refusal(Refusal::MISPLACED_LINE, answer.len()));
-            }
-            if !all_set(&flags, n) {
-                return AnswerRead::Fault(refusal(Refusal::NOT_SET, answer.len()));
-            }
-            AnswerRead::Complete
-        }
+    let mut settings = [None; Edition::VARIABLES];
+    let solved = read_lines(file, variables, n, answer, &mut settings)?;
+    if !solved {
+        return Err(Refusal::of(Subject::Answer, Fault::MisplacedLine, answer.len()));
     }
+    if !all_set(&settings, n, row) {
+        return Err(Refusal::of(Subject::Answer, Fault::NotSet, answer.len()));
+    }
+    Ok(())
 }

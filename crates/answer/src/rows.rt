@@ -9,9 +9,5 @@ pub fn store_row(row: &[u64; Edition::VARIABLES], n: usize, values: &mut [u64])
     requires { (n ≤ max_variables) × (length row.now ≡ max_variables) × (n ≤ length values.old) }
     ensures { values.new ≡ take n row.now ++ drop n values.old }
 {
-    let mut i = 0;
-    while i < n {
-        values[i] = row[i];
-        i += 1;
-    }
+    values[..n].copy_from_slice(&row[..n]);
 }

@@ -5,8 +5,6 @@
 // of `r` a constraint file and an answer, then the entries of the table; of `w` a constraint file, the values in 16 digits each, then the bytes of the room.
 #![tactic(auto)]
 
-use answer::ReadReply;
-use printing::WriteReply;
 use reporting::cases::next_both;
 use std::io::{self, Read, Write};
 
@@ -58,11 +56,8 @@ fn read_case<R: Read, W: Write>(
         return Ok(false);
     }
     reporting::fill(table);
-    match answer::read(constraint, answer, table) {
-        ReadReply::Read(n) => reporting::print_count(output, b"read ", n)?,
-        ReadReply::Refused(refusal) => reporting::print_refusal(output, refusal)?,
-    }
-    output.write_all(b"\n")?;
+    let reply = answer::read(constraint, answer, table);
+    reporting::print_counted(output, b"read ", reply)?;
     reporting::print_table(output, table)?;
     Ok(true)
 }
@@ -79,11 +74,8 @@ fn write_case<R: Read, W: Write>(
         return Ok(false);
     }
     parse(digits, table);
-    match writer::write(constraint, table, room) {
-        WriteReply::Written(n) => reporting::print_count(output, b"written ", n)?,
-        WriteReply::Refused(refusal) => reporting::print_refusal(output, refusal)?,
-    }
-    output.write_all(b"\n")?;
+    let reply = writer::write(constraint, table, room);
+    reporting::print_counted(output, b"written ", reply)?;
     output.write_all(room)?;
     output.write_all(b"\n")?;
     Ok(true)
@@ -96,13 +88,7 @@ fn run_read<R: Read, W: Write>(
     answer_length: usize,
     entries: usize,
 ) -> io::Result<bool> {
-    if FILE < constraint_length {
-        return Ok(false);
-    }
-    if FILE < answer_length {
-        return Ok(false);
-    }
-    if TABLE < entries {
+    if FILE < constraint_length || FILE < answer_length || TABLE < entries {
         return Ok(false);
     }
     let mut constraint = [0u8; FILE];
@@ -124,13 +110,7 @@ fn run_write<R: Read, W: Write>(
     entries: usize,
     room_length: usize,
 ) -> io::Result<bool> {
-    if FILE < constraint_length {
-        return Ok(false);
-    }
-    if TABLE < entries {
-        return Ok(false);
-    }
-    if ROOM < room_length {
+    if FILE < constraint_length || TABLE < entries || ROOM < room_length {
         return Ok(false);
     }
     let mut constraint = [0u8; FILE];

@@ -1,9 +1,7 @@
 -- The operators by number. Assumes nothing.
-use mathlib.Core.Path.{◌≡◌, refl, sym}
-use Prim.Native.Nat.{ℕ, zero, suc, ◌≤◌}
-use native.Mathlib.Decide.{ℕ_discrete}
+use mathlib.Core.Path.{◌≡◌, refl}
+use Prim.Native.Nat.{◌≤◌}
 use native.Mathlib.Omega.{arith}
-use lib.ListN.{length, get_or-eq_default}
 use Rattle.arithmetic.specs.declared.Operator.{Operator}
 use Rattle.arithmetic.specs.declared.Operator.TheVariants.{Combine, Not, Implies, Compare, Ite, Compute, Divide, Move, Trun, Extend, Conc, Extr}
 use Rattle.arithmetic.specs.declared.Bitwise.TheVariants.{And, Or, Xor}
@@ -12,35 +10,10 @@ use Rattle.arithmetic.specs.declared.Arithmetic.TheVariants.{Add, Sub, Mul}
 use Rattle.arithmetic.specs.declared.Division.TheVariants.{Udiv, Sdiv, Urem, Srem}
 use Rattle.arithmetic.specs.declared.Shift.TheVariants.{Shl, Ashr, Lshr}
 use Rattle.arithmetic.specs.declared.Extension.TheVariants.{Sext, Zext}
-use Rattle.arithmetic.specs.Numbering.{listed, operator_numbered, bitwise_number, comparison_number, arithmetic_number, division_number, shift_number, extension_number, operator_number}
-
--- x is none of the numbers below k, as a `match` leaves it to its last arm; so it is at least k
-abbrev pub Missed : ℕ → ℕ → Type 0
-Missed zero x = Unit {0}
-Missed (suc k) x = Missed k x × (x ≡ k → ⊥)
-
-missed : (k x : ℕ) → Missed k x → k ≤ x
-missed zero x m = omega arith
-missed (suc k) x m =
-    let h = missed k x m.0 in
-    let n = m.1 in
-    omega arith
-
--- what is at least k is none of them
-pub at_least_missed : (k x : ℕ) → k ≤ x → Missed k x
-at_least_missed zero x h = tt
-at_least_missed (suc k) x h = (at_least_missed k x (omega arith), λ e. omega arith)
-
--- from the last number on, the last operator
-pub last : (n : ℕ) → Missed 30 n → Extr ≡ operator_numbered n
-unfolding operator_numbered listed
-last n m = elim (ℕ_discrete n 30) [
-  | yes e ↦ rw e
-  | no d ↦ let h = missed 30 n m in let l : length listed ≤ n = omega arith in sym (get_or-eq_default listed Extr l)
-]
+use Rattle.arithmetic.specs.Numbering.{listed, operator_numbered, operator_number}
 
 pub give_back : (op : Operator) → operator_numbered (operator_number op) ≡ op
-unfolding operator_numbered listed operator_number bitwise_number comparison_number arithmetic_number division_number shift_number extension_number
+unfolding operator_numbered listed operator_number
 give_back (Combine And) = refl
 give_back (Combine Or) = refl
 give_back (Combine Xor) = refl
@@ -75,7 +48,7 @@ give_back Extr = refl
 
 -- the number of an operator is no more than the last
 pub number_most : (op : Operator) → operator_number op ≤ 30
-unfolding operator_number bitwise_number comparison_number arithmetic_number division_number shift_number extension_number
+unfolding operator_number
 number_most (Combine And) = omega arith
 number_most (Combine Or) = omega arith
 number_most (Combine Xor) = omega arith

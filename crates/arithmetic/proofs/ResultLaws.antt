@@ -1,7 +1,7 @@
 -- Every operator's result lies below 2 to its width, unless its divisor is zero. Assumes nothing.
 use mathlib.Core.Path.{◌≡◌, refl}
 use mathlib.Core.Bool.{Bool, true, false, cond}
-use mathlib.Core.Option.{none, some}
+use Rattle.std.specs.Prelude.{None, Some}
 use Prim.Native.Nat.{ℕ, ◌+◌, ◌-◌, ◌*◌, ◌/◌, ◌%◌, ◌^◌, ◌<◌}
 use native.Mathlib.Nat.{div-le_self, le_of_lt, lt_of_lt_of_le, mod-lt}
 use native.Mathlib.Omega.{arith}
@@ -71,7 +71,7 @@ joined_lt : (k x y a b : ℕ) → Joined k x y a b → a * 2 ^ y + b < 2 ^ k
 joined_lt k x y a b g = rw (g.both, pow-add 2 x y) (digits_lt g.bound g.bound₂)
 
 -- the value of operands that keep their rule
-value_within : (op : Operator) (k : ℕ) (a b c : Word) → Evaluable op k a b c → zero_divisor op b ≡ false → (r : ℕ) × (value_of op k a b c ≡ some r) × (r < 2 ^ k)
+value_within : (op : Operator) (k : ℕ) (a b c : Word) → Evaluable op k a b c → zero_divisor op b ≡ false → (r : ℕ) × (value_of op k a b c ≡ Some r) × (r < 2 ^ k)
 unfolding zero_divisor value_of
 value_within (Combine o) k a b c g z = (combined o k a.value b.value, refl, combined_lt o k a.value b.value g.bound g.bound₂)
 value_within Not k a b c g z = (inverted k a.value, refl, inverted_lt k a.value g.bound)
@@ -92,7 +92,7 @@ value_within Extr k a b c g z =
     let x = a.value / 2 ^ b.value in
     (x % 2 ^ (c.value - b.value), refl, rw g.span (mod-lt x (pow_pos (c.value - b.value))))
 
-value_missing : (op : Operator) (k : ℕ) (a b c : Word) → zero_divisor op b ≡ true → value_of op k a b c ≡ none
+value_missing : (op : Operator) (k : ℕ) (a b c : Word) → zero_divisor op b ≡ true → value_of op k a b c ≡ None
 unfolding zero_divisor value_of
 value_missing (Combine o) k a b c z = never (cc z)
 value_missing Not k a b c z = never (cc z)

@@ -1,6 +1,6 @@
 -- The table cases W1 to W12.
 use Rattle.std.specs.Prelude.{ℕ, ◌≡◌, List, [], ◌∷◌, map}
-use Rattle.std.proofs.Math.Option.{some}
+use Rattle.std.specs.Prelude.{Some}
 use Rattle.arithmetic.specs.declared.Operator.{Operator}
 use Rattle.arithmetic.specs.declared.Operator.TheVariants.{Compare, Compute, Divide, Move, Trun, Conc, Extr}
 use Rattle.arithmetic.specs.declared.Comparison.TheVariants.{Slt, Sge}
@@ -50,4 +50,4 @@ cases =
 
 -- the meaning of each case, at the width of its result, is its result
 abbrev pub TableCases : Type 0
-TableCases = map (λ r. meaning r.case_operator r.case_result.width r.case_first r.case_second r.case_third) cases ≡ map (λ r. some r.case_result.value) cases
+TableCases = map (λ r. meaning r.case_operator r.case_result.width r.case_first r.case_second r.case_third) cases ≡ map (λ r. Some r.case_result.value) cases

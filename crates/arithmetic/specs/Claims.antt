@@ -1,7 +1,7 @@
 -- What is claimed of the meanings, for every width.
 use Rattle.std.specs.Prelude.{ℕ, suc, ◌-◌, ◌*◌, ◌≤◌, ◌<◌, ◌^◌, ◌≡◌, Bool, true, false, not, eqb, leb, ltb, ℤ, pos, negsuc, neg_ℤ, nat_abs, ◌≤ℤ◌, ◌<ℤ◌}
 use Rattle.std.specs.Bool.{beq}
-use Rattle.std.proofs.Math.Option.{none, some}
+use Rattle.std.specs.Prelude.{None, Some}
 use Rattle.std.specs.Int.Signed.{le_z, lt_z, non_neg}
 use Rattle.arithmetic.specs.declared.Operator.{Operator}
 use Rattle.arithmetic.specs.declared.Operator.TheVariants.{Combine, Not, Implies, Compare, Ite, Compute, Divide, Move, Trun, Extend, Conc, Extr}
@@ -53,8 +53,8 @@ zero_divisor Extr b = false
 
 -- what operands that keep their rule come to: nothing where the divisor is zero, else a number of k bits
 pub record HasResult (op : Operator) (k : ℕ) (a b c : Word) : Type 0 where
-  pub missing : zero_divisor op b ≡ true → meaning op k a b c ≡ none
-  pub within : zero_divisor op b ≡ false → (r : ℕ) × (meaning op k a b c ≡ some r) × (r < 2 ^ k)
+  pub missing : zero_divisor op b ≡ true → meaning op k a b c ≡ None
+  pub within : zero_divisor op b ≡ false → (r : ℕ) × (meaning op k a b c ≡ Some r) × (r < 2 ^ k)
 
 -- "Every operator's result lies below 2 to its width", unless its divisor is zero
 abbrev pub ResultsFit : Type 0

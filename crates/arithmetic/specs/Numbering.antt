@@ -28,12 +28,12 @@ unfoldable pub operator_numbered : ℕ → Operator
 operator_numbered n = get_or listed n Extr
 
 -- the number of an operator, by its kind
-unfoldable pub bitwise_number : Bitwise → ℕ
+abbrev pub bitwise_number : Bitwise → ℕ
 bitwise_number And = 0
 bitwise_number Or = 1
 bitwise_number Xor = 2
 
-unfoldable pub comparison_number : Comparison → ℕ
+abbrev pub comparison_number : Comparison → ℕ
 comparison_number Equal = 5
 comparison_number NotEqual = 6
 comparison_number Ule = 7
@@ -45,23 +45,23 @@ comparison_number Sge = 12
 comparison_number Slt = 13
 comparison_number Sgt = 14
 
-unfoldable pub arithmetic_number : Arithmetic → ℕ
+abbrev pub arithmetic_number : Arithmetic → ℕ
 arithmetic_number Add = 16
 arithmetic_number Sub = 17
 arithmetic_number Mul = 18
 
-unfoldable pub division_number : Division → ℕ
+abbrev pub division_number : Division → ℕ
 division_number Udiv = 19
 division_number Sdiv = 20
 division_number Urem = 21
 division_number Srem = 22
 
-unfoldable pub shift_number : Shift → ℕ
+abbrev pub shift_number : Shift → ℕ
 shift_number Shl = 23
 shift_number Ashr = 24
 shift_number Lshr = 25
 
-unfoldable pub extension_number : Extension → ℕ
+abbrev pub extension_number : Extension → ℕ
 extension_number Sext = 27
 extension_number Zext = 28
 

@@ -6,12 +6,11 @@
 // `b`: builds the file's index into what is lent.
 // `s`, `l`, `v`, `w`, `u`: stores the second number at the place that the first one says, in the starts, the lists, the values, the verdicts or the results.
 // `e` ends the run.
-ghost use Rattle.std.specs.Prelude.{◌≤◌};
-
-use super::entries::{print_numbers, store_number, store_verdict, store_word};
-use index::{IndexReply, index};
-use moves::ChangeReply;
+use index::index;
+use moves::Effect;
 use moves::runs::{change_front, change_front_through};
+use refusal::Refusal;
+use reporting::print_table;
 use std::io::{self, Read, Write};
 use verdict_printing::print_overall;
 
@@ -32,6 +31,11 @@ const FIFTH: usize = 54;
 const NUMBER: usize = 8;
 
 const LONG_NUMBER: usize = 16;
+
+// What a number is reduced by to be stored as an entry of 32 bits, or of a byte.
+const NUMBERS: u64 = 1 << 32;
+
+const BYTES: u64 = 1 << 8;
 
 #[derive(Clone, Copy)]
 struct Command {
@@ -61,20 +65,20 @@ fn read_command(line: &[u8; COMMAND]) -> Command {
     }
 }
 
-// The next command; where the input is too short, one that ends the run.
-fn next_command<R: Read>(input: &mut R) -> io::Result<Command> {
+// The next command; none where the run ends, or the input is too short.
+fn next_command<R: Read>(input: &mut R) -> io::Result<Option<Command>> {
     let mut line = [0u8; COMMAND];
-    if !reporting::next_bytes(input, &mut line)? {
-        line[0] = b'e';
+    if !reporting::next_bytes(input, &mut line)? || line[0] == b'e' {
+        return Ok(None);
     }
-    Ok(read_command(&line))
+    Ok(Some(read_command(&line)))
 }
 
-// A length, or all that there is.
-fn at_most(length: usize, all: usize) -> usize
-    ensures { result ≤ all }
-{
-    if length < all { length } else { all }
+// Stores an entry where the table has such a place.
+fn store<T: Copy>(table: &mut [T], at: usize, entry: T) {
+    if at < table.len() {
+        table[at] = entry;
+    }
 }
 
 // Prints the parts of an index that are lent.
@@ -84,29 +88,21 @@ pub(crate) fn print_lent<W: Write>(
     lists: &[u32],
     lent: Lent,
 ) -> io::Result<()> {
-    let s = at_most(lent.starts, starts.len());
-    let l = at_most(lent.lists, lists.len());
-    print_numbers(output, &starts[..s])?;
-    print_numbers(output, &lists[..l])
+    let s = lent.starts.min(starts.len());
+    let l = lent.lists.min(lists.len());
+    print_table(output, &starts[..s])?;
+    print_table(output, &lists[..l])
 }
 
-fn print_change<W: Write>(output: &mut W, reply: ChangeReply) -> io::Result<()> {
+fn print_change<W: Write>(output: &mut W, reply: Result<Effect, Refusal>) -> io::Result<()> {
     match reply {
-        ChangeReply::Changed(effect) => {
+        Ok(effect) => {
             print_overall(output, effect.overall)?;
             reporting::print_count(output, b" named ", effect.named)?;
             reporting::print_count(output, b" altered ", effect.altered)?;
             reporting::print_count(output, b" bits ", effect.bits as usize)?;
         }
-        ChangeReply::Refused(refusal) => reporting::print_refusal(output, refusal)?,
-    }
-    output.write_all(b"\n")
-}
-
-fn print_building<W: Write>(output: &mut W, reply: IndexReply) -> io::Result<()> {
-    match reply {
-        IndexReply::Indexed(lines) => reporting::print_count(output, b"indexed ", lines)?,
-        IndexReply::Refused(refusal) => reporting::print_refusal(output, refusal)?,
+        Err(refusal) => reporting::print_refusal(output, refusal)?,
     }
     output.write_all(b"\n")
 }
@@ -136,8 +132,8 @@ fn change_through_lent<W: Write>(
     lists: &[u32],
     lent: Lent,
 ) -> io::Result<()> {
-    let s = at_most(lent.starts, starts.len());
-    let l = at_most(lent.lists, lists.len());
+    let s = lent.starts.min(starts.len());
+    let l = lent.lists.min(lists.len());
     let reply = change_front_through(
         constraint,
         values,
@@ -161,10 +157,10 @@ fn build<W: Write>(
     lists: &mut [u32],
     lent: Lent,
 ) -> io::Result<()> {
-    let s = at_most(lent.starts, starts.len());
-    let l = at_most(lent.lists, lists.len());
+    let s = lent.starts.min(starts.len());
+    let l = lent.lists.min(lists.len());
     let reply = index(constraint, &mut starts[..s], &mut lists[..l]);
-    print_building(output, reply)?;
+    reporting::print_counted(output, b"indexed ", reply)?;
     print_lent(output, starts, lists, lent)
 }
 
@@ -187,11 +183,11 @@ fn obey<W: Write>(
             output, c, constraint, values, verdicts, results, starts, lists, lent,
         )?,
         b'b' => build(output, constraint, starts, lists, lent)?,
-        b's' => store_number(starts, c.first, c.second),
-        b'l' => store_number(lists, c.first, c.second),
-        b'v' => store_word(values, c.first, c.second),
-        b'w' => store_verdict(verdicts, c.first, c.second),
-        b'u' => store_word(results, c.first, c.second),
+        b's' => store(starts, c.first, (c.second % NUMBERS) as u32),
+        b'l' => store(lists, c.first, (c.second % NUMBERS) as u32),
+        b'v' => store(values, c.first, c.second),
+        b'w' => store(verdicts, c.first, (c.second % BYTES) as u8),
+        b'u' => store(results, c.first, c.second),
         b'n' => {
             return Ok(Lent {
                 starts: c.third,
@@ -220,10 +216,9 @@ pub(crate) fn obey_all<R: Read, W: Write>(
         lists: 0,
     };
     for _ in 0..u64::MAX {
-        let c = next_command(input)?;
-        if c.letter == b'e' {
+        let Some(c) = next_command(input)? else {
             break;
-        }
+        };
         lent = obey(
             output, c, constraint, values, verdicts, results, starts, lists, lent,
         )?;

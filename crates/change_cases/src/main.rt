@@ -9,21 +9,25 @@
 ghost use Rattle.reporting.specs.CaseRooms.{Fitted};
 
 use commands::{obey_all, print_lent};
-use entries::fill_numbers;
-use reporting::cases::{
-    FILE, NO_VERDICT, NextCase, RESULTS, Sizes, VALUES, VERDICTS, next_both, next_case,
-};
+use reporting::cases::{FILE, NO_VERDICT, RESULTS, Sizes, VALUES, VERDICTS, next_both, next_case};
 use std::io::{self, Read, Write};
 use tables::check::check;
-use verdict_printing::{print_reply, print_verdicts};
+use verdict_printing::print_reply;
 
 mod commands;
-mod entries;
 
 // The entries of the two tables of an index.
 const STARTS: usize = 300;
 
 const LISTS: usize = 4200;
+
+// What stands in them before the first use: each entry is this much more than the one before it.
+const STEP: u32 = 10007;
+
+// Fills a table, so that each entry is told from the others.
+fn fill_numbers(table: &mut [u32]) {
+    reporting::fill_by(table, STEP, |v| v.saturating_add(STEP));
+}
 
 // Fills the tables, and prints what the check answers.
 fn begin<W: Write>(
@@ -65,7 +69,7 @@ fn replay<R: Read, W: Write>(
         &mut lists,
     )?;
     reporting::print_table(output, values)?;
-    print_verdicts(output, verdicts)?;
+    reporting::print_table(output, verdicts)?;
     reporting::print_table(output, results)?;
     if lent.starts > 0 || lent.lists > 0 {
         print_lent(output, &starts, &lists, lent)?;
@@ -117,8 +121,8 @@ fn run<R: Read, W: Write>(input: &mut R, output: &mut W, sizes: Sizes) -> io::Re
 // Replays the next run; false where none is left, or one is larger than the room for it.
 fn run_case<R: Read, W: Write>(input: &mut R, output: &mut W) -> io::Result<bool> {
     match next_case(input)? {
-        NextCase::Case(sizes) => run(input, output, sizes),
-        NextCase::End => Ok(false),
+        Some(sizes) => run(input, output, sizes),
+        None => Ok(false),
     }
 }
 

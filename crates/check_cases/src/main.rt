@@ -7,13 +7,11 @@
 
 ghost use Rattle.reporting.specs.CaseRooms.{Fitted};
 
-use reporting::cases::{
-    FILE, NO_VERDICT, NextCase, RESULTS, Sizes, VALUES, VERDICTS, next_both, next_case,
-};
+use reporting::cases::{FILE, NO_VERDICT, RESULTS, Sizes, VALUES, VERDICTS, next_both, next_case};
 use spear::spear_check;
 use std::io::{self, Read, Write};
 use tables::check::check;
-use verdict_printing::{print_reply, print_report, print_verdicts};
+use verdict_printing::{print_reply, print_report};
 
 // Prints what the check, the report and the C call answer.
 fn print_case<W: Write>(
@@ -28,7 +26,7 @@ fn print_case<W: Write>(
     reporting::fill_down(results);
     print_reply(output, check(constraint, answer, values, verdicts, results))?;
     reporting::print_table(output, values)?;
-    print_verdicts(output, verdicts)?;
+    reporting::print_table(output, verdicts)?;
     reporting::print_table(output, results)?;
     print_report(output, constraint, answer)?;
     let code = spear_check(constraint, answer) as usize;
@@ -80,8 +78,8 @@ fn run<R: Read, W: Write>(input: &mut R, output: &mut W, sizes: Sizes) -> io::Re
 // Answers the next case; false where none is left, or one is larger than the room for it.
 fn run_case<R: Read, W: Write>(input: &mut R, output: &mut W) -> io::Result<bool> {
     match next_case(input)? {
-        NextCase::Case(sizes) => run(input, output, sizes),
-        NextCase::End => Ok(false),
+        Some(sizes) => run(input, output, sizes),
+        None => Ok(false),
     }
 }
 

@@ -7,13 +7,12 @@ use lib.Dec.{leb}
 use lib.ListN.{length, take, drop}
 use lib.Seq.{take-append_seam, take_at}
 use borrow.Author.Tests.{le-leb}
-use Rattle.refusal.specs.Result.{Result, accepted, refused, ◌>>=◌}
+use Rattle.refusal.specs.Result.{Reply, Ok, Err, ◌>>=◌}
 use Rattle.refusal.proofs.ResultLaws.{never, Yields, yields_accepted, yields_bind, yields_ensure, yields_itself}
 use Rattle.constraint.specs.File.{File}
 use Rattle.constraint.specs.Read.{read_file}
 use Rattle.judge.specs.InUse.{room_of}
 use Rattle.tables.specs.Check.{checking_for, checking, checked}
-use Rattle.printing.specs.declared.WriteReply.TheVariants.{Written}
 use Rattle.printing.specs.Output.{WriteOutcome, room_for, written}
 use Rattle.clean_text.specs.Text.{clean_text}
 use Rattle.clean_text.proofs.NeverLonger.{text_never_longer}
@@ -24,7 +23,7 @@ use Rattle.clean.specs.Claims.{Cleans, ReadsBack, SameVerdicts, CleanAgain, Neve
 -- a text is the clean text of the file that is read
 record CleanOf (constraint text : List ℕ) : Type 0 where
   file : File
-  is_read : read_file constraint ≡ accepted file
+  is_read : read_file constraint ≡ Ok file
   is_text : text ≡ clean_text file
 
 -- what is written is
@@ -35,13 +34,13 @@ cleaning_yields constraint output =
     yields_ensure (leb (length (clean_text f)) (length output)) _ λ _.
     yields_accepted (record { file = f; is_read = e; is_text = refl })
 
-written_is : (constraint room text : List ℕ) (r : Result (List ℕ)) → Yields (CleanOf constraint) r → written room r ≡ record { reply = Written (length text); output = text ++ drop (length text) room } → CleanOf constraint text
-written_is constraint room text (accepted t) y e =
+written_is : (constraint room text : List ℕ) (r : Reply (List ℕ)) → Yields (CleanOf constraint) r → written room r ≡ record { reply = Ok (length text); output = text ++ drop (length text) room } → CleanOf constraint text
+written_is constraint room text (Ok t) y e =
     let l : length t ≡ length text = cc (ap (λ (o : WriteOutcome). o.reply) e) in
     let fronts = ap (λ (o : WriteOutcome). take (length text) o.output) e in
     let same : t ≡ text = sym (take_at t (drop (length t) room) (length text) l) ∙ fronts ∙ take-append_seam text (drop (length text) room) in
     subst (CleanOf constraint) same (y.holds t refl)
-written_is constraint room text (refused x) y e = never (cc (ap (λ (o : WriteOutcome). o.reply) e))
+written_is constraint room text (Err x) y e = never (cc (ap (λ (o : WriteOutcome). o.reply) e))
 
 module _ {constraint text : List ℕ} (c : Cleans constraint text) where
   clean_of : CleanOf constraint text
@@ -57,7 +56,7 @@ reads_back constraint text c = let o = clean_of c in (o.file, o.is_read, reads_s
 pub same_verdicts : SameVerdicts
 unfolding checking
 same_verdicts constraint text c answer t =
-    ap (λ r. checked t (r >>= λ f. checking_for f answer (room_of t) >>= λ row. accepted (f, row))) (reads_same c)
+    ap (λ r. checked t (r >>= λ f. checking_for f answer (room_of t) >>= λ row. Ok (f, row))) (reads_same c)
 
 pub clean_again : CleanAgain
 unfolding cleaning
@@ -73,7 +72,7 @@ room_of_the_file constraint output f e h =
     (length (clean_text f), rw (e, le-leb (length (clean_text f)) (length output) k))
 
 -- ---- equal exactly
-text_of : {constraint text : List ℕ} → Cleans constraint text → (f : File) → read_file constraint ≡ accepted f → text ≡ clean_text f
+text_of : {constraint text : List ℕ} → Cleans constraint text → (f : File) → read_file constraint ≡ Ok f → text ≡ clean_text f
 text_of c f e = let o = clean_of c in let same : o.file ≡ f = cc (sym o.is_read ∙ e) in o.is_text ∙ ap clean_text same
 
 same_map : {f g : File} → f ≡ g → SameMap f g

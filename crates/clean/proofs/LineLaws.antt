@@ -3,7 +3,7 @@ use Prim.Native.Nat.{ℕ, ◌+◌, ◌≤◌}
 use mathlib.Core.Path.{◌≡◌, refl, sym, ap, ◌∙◌}
 use mathlib.Core.Bool.{Bool, true, false, cond}
 use mathlib.Core.List.{List, [], ◌∷◌, ◌++◌, map, flat_map, append_assoc}
-use mathlib.Core.Option.{none, some}
+use Rattle.std.specs.Prelude.{None, Some}
 use native.Mathlib.Omega.{arith}
 use lib.Dec.{ltb}
 use lib.ListN.{length, get_or, length-append}
@@ -42,20 +42,20 @@ module _ (e : Edition) where
       rw version_text_lem (put_then (rw version_text_lem at h) (put_then (simp length-append (omega arith)) (put_then (simp length-append (omega arith)) p q) r) s)
 
 -- ---- the `e` line
-pub put_no_expectation : (room : List ℕ) (at : ℕ) → Put (fed (expectation_lines none)) room at at room
+pub put_no_expectation : (room : List ℕ) (at : ℕ) → Put (fed (expectation_lines None)) room at at room
 unfolding expectation_lines fed flat_map
 put_no_expectation room at = put_none room at
 
 module _ (n : ℕ) where
-  expectation_text : fed (expectation_lines (some n)) ≡ ascii "\ne " ++ digits n
+  expectation_text : fed (expectation_lines (Some n)) ≡ ascii "\ne " ++ digits n
   unfolding expectation_lines line_text
   expectation_text = fed_one (ascii "e" ++ spaced (digits n ∷ [])) ∙ ap (λ s. ascii "\ne" ++ s) (spaced_one (digits n))
 
-  pub expectation_length : length (fed (expectation_lines (some n))) ≡ 3 + length (digits n)
+  pub expectation_length : length (fed (expectation_lines (Some n))) ≡ 3 + length (digits n)
   expectation_length = ap length expectation_text ∙ omega arith
 
-  pub put_expectation : {room : List ℕ} {at : ℕ} → at + length (fed (expectation_lines (some n))) ≤ length room
-      → {end end' : ℕ} {room' room'' : List ℕ} → Put (ascii "\ne ") room at end room' → Put (digits n) room' end end' room'' → Put (fed (expectation_lines (some n))) room at end' room''
+  pub put_expectation : {room : List ℕ} {at : ℕ} → at + length (fed (expectation_lines (Some n))) ≤ length room
+      → {end end' : ℕ} {room' room'' : List ℕ} → Put (ascii "\ne ") room at end room' → Put (digits n) room' end end' room'' → Put (fed (expectation_lines (Some n))) room at end' room''
   put_expectation h p q = rw expectation_text (put_then (rw expectation_text at h) p q)
 
 -- ---- the `d` line

@@ -5,7 +5,7 @@ use mathlib.Core.List.{List, []}
 use native.Mathlib.Omega.{arith}
 use lib.ListN.{length}
 use Rattle.edition.specs.declared.Edition.{Edition}
-use Rattle.refusal.specs.Result.{accepted}
+use Rattle.refusal.specs.Result.{Ok}
 use Rattle.constraint.specs.declared.Operand.{Operand}
 use Rattle.constraint.specs.declared.Operand.TheVariants.{Absent, Var, Const}
 use Rattle.constraint.specs.File.{Variable, File, edition_of, width_at}
@@ -46,7 +46,7 @@ module _ (bytes : List ℕ) (t : Store) (p : Progress) where
   abbrev file : File
   file = stored_file bytes t p
 
-  pub widths_short : accepted file ≡ read_file bytes → HeadsInUseFit bytes t p → ShortWidths t p
+  pub widths_short : Ok file ≡ read_file bytes → HeadsInUseFit bytes t p → ShortWidths t p
   widths_short e fit =
       let s = accepted_is_sound bytes file (sym e) in
       let xs = variables_in bytes t.variables p.variables in

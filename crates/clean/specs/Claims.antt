@@ -1,21 +1,20 @@
 -- What is claimed of the cleaning call.
 use Rattle.std.specs.Prelude.{ℕ, ◌≤◌, ◌≡◌, ◌↔◌, List, ◌++◌, length, drop}
-use Rattle.refusal.specs.Result.{accepted}
+use Rattle.refusal.specs.Result.{Ok}
 use Rattle.constraint.specs.File.{File}
 use Rattle.constraint.specs.Read.{read_file}
 use Rattle.judge.specs.InUse.{Tables}
 use Rattle.tables.specs.Check.{check_outcome}
-use Rattle.printing.specs.declared.WriteReply.TheVariants.{Written}
 use Rattle.clean.specs.Clean.{clean_outcome}
 
 -- a file cleans to a text: in some room the call answers the text's length, and leaves the text in front of what was behind it
 pub record Cleans (constraint text : List ℕ) : Type 0 where
   pub room : List ℕ
-  pub outcome : clean_outcome constraint room ≡ record { reply = Written (length text); output = text ++ drop (length text) room }
+  pub outcome : clean_outcome constraint room ≡ record { reply = Ok (length text); output = text ++ drop (length text) room }
 
 -- "It is accepted", and reads to the very file that the constraint file reads to
 abbrev pub ReadsBack : Type 0
-ReadsBack = (constraint text : List ℕ) → Cleans constraint text → (f : File) × (read_file constraint ≡ accepted f) × (read_file text ≡ accepted f)
+ReadsBack = (constraint text : List ℕ) → Cleans constraint text → (f : File) × (read_file constraint ≡ Ok f) × (read_file text ≡ Ok f)
 
 -- it "has the same verdicts under every assignment": the check answers, and leaves, the same for every answer and any tables
 abbrev pub SameVerdicts : Type 0
@@ -37,9 +36,9 @@ NeverLonger = (constraint text : List ℕ) → Cleans constraint text → length
 abbrev pub RoomOfTheFile : Type 0
 RoomOfTheFile =
     (constraint output : List ℕ) (f : File)
-    → read_file constraint ≡ accepted f
+    → read_file constraint ≡ Ok f
     → length constraint ≤ length output
-    → (n : ℕ) × ((clean_outcome constraint output).reply ≡ Written n)
+    → (n : ℕ) × ((clean_outcome constraint output).reply ≡ Ok n)
 
 -- two files say the same: "`e`, the variables with widths in order, and the lines with constants reduced are the same"
 pub record SameMap (f g : File) : Type 0 where
@@ -53,6 +52,6 @@ EqualExactly =
     (constraint text constraint' text' : List ℕ) (f g : File)
     → Cleans constraint text
     → Cleans constraint' text'
-    → read_file constraint ≡ accepted f
-    → read_file constraint' ≡ accepted g
+    → read_file constraint ≡ Ok f
+    → read_file constraint' ≡ Ok g
     → (text ≡ text') ↔ SameMap f g

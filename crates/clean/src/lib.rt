@@ -13,12 +13,11 @@ ghost use Rattle.clean.specs.Widths.{ShortWidths};
 
 use edition::Edition;
 use lines::{edition_of, put_declarations, put_expectation, put_statements, put_version};
-use printing::output::refused;
-use printing::{WriteReply, put_bytes};
+use printing::put_bytes;
 use reader::reading::read;
-use refusal::{Refusal, Subject};
+use refusal::{Fault, Refusal, Subject};
+use store::Progress;
 use store::lines::{TABLE_BODIES, TABLE_HEADS};
-use store::{Progress, Step};
 
 pub mod claims;
 mod lines;
@@ -54,34 +53,30 @@ fn clean_short<'a>(
     bodies: &'a [u64; TABLE_BODIES],
     p: Progress,
     output: &mut [u8],
-) -> WriteReply
+) -> Result<usize, Refusal>
     requires { StoreSized (store_of variables.now heads.now bodies.now) × InTables p × ShortWidths (store_of variables.now heads.now bodies.now) p × (length (clean_text (stored_file file.now (store_of variables.now heads.now bodies.now) p)) ≤ max_file_bytes) }
     ensures { record { reply = result; output = output.new } ≡ written output.old (room_for (clean_text (stored_file file.now (store_of variables.now heads.now bodies.now) p)) (length output.old)) }
 {
     let mut text = [0u8; Edition::FILE_BYTES];
     let length = put_clean(file, variables, heads, bodies, p, &mut text);
     if output.len() < length {
-        return refused(Refusal::TOO_SHORT, Subject::Output, 0);
+        return Err(Refusal::of(Subject::Output, Fault::TooShort, 0));
     }
     put_bytes(&text[..length], output, 0);
-    WriteReply::Written(length)
+    Ok(length)
 }
 
-// Writes the clean spelling of a constraint file, any bytes. The text is never longer than the file, so a room as long as the file needs no measure.
-pub fn clean(constraint: &[u8], output: &mut [u8]) -> WriteReply
+// Writes the clean spelling of a constraint file, any bytes, and says how long it is. The text is never longer than the file, so a room as long as the file needs no measure.
+pub fn clean(constraint: &[u8], output: &mut [u8]) -> Result<usize, Refusal>
     ensures { record { reply = result; output = output.new } ≡ clean_outcome constraint.now output.old }
 {
     let mut variables = [0u64; Edition::VARIABLES];
     let mut heads = [0u8; TABLE_HEADS];
     let mut bodies = [0u64; TABLE_BODIES];
-    match read(constraint, &mut variables, &mut heads, &mut bodies) {
-        Step::Stop(r) => WriteReply::Refused(r),
-        Step::Next(p) => {
-            if constraint.len() <= output.len() {
-                let length = put_clean(constraint, &variables, &heads, &bodies, p, output);
-                return WriteReply::Written(length);
-            }
-            clean_short(constraint, &variables, &heads, &bodies, p, output)
-        }
+    let p = read(constraint, &mut variables, &mut heads, &mut bodies)?;
+    if constraint.len() <= output.len() {
+        let length = put_clean(constraint, &variables, &heads, &bodies, p, output);
+        return Ok(length);
     }
+    clean_short(constraint, &variables, &heads, &bodies, p, output)
 }

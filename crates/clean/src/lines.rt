@@ -1,10 +1,8 @@
 // The lines of a clean text, put into a room; all but the first with the LF in front of them.
-ghost use Rattle.std.specs.Prelude.{◌≡◌, [], ◌∷◌, ◌++◌, map, ℕ, ◌+◌, ◌≤◌, ◌<◌, length};
-ghost use Rattle.std.proofs.Math.Option.{get_or};
+ghost use Rattle.std.specs.Prelude.{◌≡◌, [], ◌∷◌, ◌++◌, map, ℕ, ◌+◌, ◌≤◌, ◌<◌, length, unwrap_or};
 ghost use Rattle.edition.specs.Edition.{edition10, max_variables, max_lines};
 ghost use Rattle.refusal.specs.SubjectWords.{ascii};
 ghost use Rattle.store.specs.Tables.{line_bodies, table_heads, table_bodies, variables_in, operand_of, operand_in, line_in, lines_in};
-ghost use Rattle.store.specs.Progress.{version_read, expectation_read};
 ghost use Rattle.printing.specs.Room.{Put};
 ghost use Rattle.clean_text.specs.Text.{declaration_text, operand_tokens, spaced, version_line, expectation_lines, declaration_lines, statement_letter, operands_tokens, statement_line, statement_lines, fed};
 ghost use Rattle.clean.specs.Front.{front_text};
@@ -16,16 +14,12 @@ use printing::{put_byte, put_bytes, put_digits};
 use store::lines::{
     ABSENT, FIRST, OUTPUT, SECOND, TABLE_BODIES, TABLE_HEADS, THIRD, body_of, head_of, operator_of,
 };
-use store::{Expectation, Version};
 
 // The edition that a file is read by: 1.0 where there is no version.
-pub(crate) fn edition_of(version: Version) -> Edition
-    ensures { result ≡ get_or (version_read version) edition10 }
+pub(crate) fn edition_of(version: Option<Edition>) -> Edition
+    ensures { result ≡ unwrap_or version edition10 }
 {
-    match version {
-        Version::NoVersion => Edition::v1_0(),
-        Version::HasVersion(e) => e,
-    }
+    version.unwrap_or(Edition::v1_0())
 }
 
 pub(crate) fn put_version(e: Edition, room: &mut [u8], at: usize) -> usize
@@ -38,17 +32,15 @@ pub(crate) fn put_version(e: Edition, room: &mut [u8], at: usize) -> usize
     put_digits(e.minor, room, minor)
 }
 
-pub(crate) fn put_expectation(expectation: Expectation, room: &mut [u8], at: usize) -> usize
-    requires { at + length (fed (expectation_lines (expectation_read expectation))) ≤ length room.old }
-    ensures { Put (fed (expectation_lines (expectation_read expectation))) room.old at result room.new }
+pub(crate) fn put_expectation(expectation: Option<u8>, room: &mut [u8], at: usize) -> usize
+    requires { at + length (fed (expectation_lines expectation)) ≤ length room.old }
+    ensures { Put (fed (expectation_lines expectation)) room.old at result room.new }
 {
-    match expectation {
-        Expectation::NoExpectation => at,
-        Expectation::HasExpectation(n) => {
-            let number = put_bytes(b"\ne ", room, at);
-            put_digits(n as u64, room, number)
-        }
-    }
+    let Some(n) = expectation else {
+        return at;
+    };
+    let number = put_bytes(b"\ne ", room, at);
+    put_digits(n as u64, room, number)
 }
 
 // The declarations of n variables.

@@ -13,7 +13,7 @@ use arithmetic::Operator;
 use edition::Edition;
 use printing::parts::put_part;
 use printing::{put_below_hundred, put_byte, put_bytes, put_number};
-use spelling::symbols::symbol_of;
+use spelling::symbol_of;
 use store::lines::{ABSENT, head_width, is_variable};
 use store::variables::{name_length, name_start, word_width};
 
@@ -86,8 +86,5 @@ pub(crate) fn put_operator(op: Operator, room: &mut [u8], at: usize) -> usize
     ensures { Put (spaced (spelling_of edition10 op ∷ [])) room.old at result room.new }
 {
     let token = put_byte(b' ', room, at);
-    let symbol = symbol_of(op);
-    let bytes = symbol.bytes;
-    let len = symbol.len;
-    put_bytes(&bytes[..len], room, token)
+    put_bytes(symbol_of(op), room, token)
 }

@@ -5,7 +5,6 @@
 #![tactic(auto)]
 
 use clean::clean;
-use printing::WriteReply;
 use std::io::{self, Read, Write};
 
 const HEADER: usize = 18;
@@ -21,17 +20,10 @@ const ROOM: usize = 70000;
 // Cleans a file, prints the reply and the room, and answers how many bytes were written.
 fn print_cleaned<W: Write>(output: &mut W, file: &[u8], room: &mut [u8]) -> io::Result<usize> {
     let reply = clean(file, room);
-    match reply {
-        WriteReply::Written(n) => reporting::print_count(output, b"written ", n)?,
-        WriteReply::Refused(refusal) => reporting::print_refusal(output, refusal)?,
-    }
-    output.write_all(b"\n")?;
+    reporting::print_counted(output, b"written ", reply)?;
     output.write_all(room)?;
     output.write_all(b"\n")?;
-    match reply {
-        WriteReply::Written(n) => Ok(n),
-        WriteReply::Refused(_) => Ok(0),
-    }
+    Ok(reply.unwrap_or(0))
 }
 
 // Cleans a clean text again.
@@ -69,10 +61,7 @@ fn run_case<R: Read, W: Write>(input: &mut R, output: &mut W) -> io::Result<bool
     }
     let file_length = reporting::hex(&header, 0, NUMBER) as usize;
     let room_length = reporting::hex(&header, SECOND, SECOND + NUMBER) as usize;
-    if ROOM < file_length {
-        return Ok(false);
-    }
-    if ROOM < room_length {
+    if ROOM < file_length || ROOM < room_length {
         return Ok(false);
     }
     let mut file = [0u8; ROOM];

@@ -4,7 +4,7 @@ use Prim.Native.Char.{code}
 use mathlib.Core.Path.{◌≡◌, refl, ap}
 use mathlib.Core.Bool.{Bool, true, false}
 use mathlib.Core.List.{List, [], ◌∷◌, ◌++◌, map, flat_map, append-nil}
-use mathlib.Core.Option.{Option, none, some}
+use Rattle.std.specs.Prelude.{Option, None, Some}
 use native.Mathlib.Omega.{arith}
 use lib.Dec.{eqb}
 use lib.ListN.{length}
@@ -27,8 +27,8 @@ use Rattle.clean_text.proofs.SpokenLaws.{Spoken}
 -- ---- what it says
 -- the tokens of its `e` lines
 abbrev expectation_tokens : Option ℕ → List (List (List ℕ))
-expectation_tokens none = []
-expectation_tokens (some n) = (digits n ∷ []) ∷ []
+expectation_tokens None = []
+expectation_tokens (Some n) = (digits n ∷ []) ∷ []
 
 abbrev expectation_said : Option ℕ → List Said
 expectation_said n = map (λ ts. record { letter = code "e"; tokens = ts }) (expectation_tokens n)
@@ -89,8 +89,8 @@ declarations_again (t ∷ ts) (x ∷ xs) p = let q = declarations_again ts xs p.
 -- ---- the header's lines
 expectation_spoken : (n : Option ℕ) → Pairwise Spoken (expectation_lines n) (expectation_said n)
 unfolding expectation_lines leading_letter leads is_seen
-expectation_spoken none = tt
-expectation_spoken (some n) = (record { letter = (refl, refl, refl, refl); words = (word_digits n, tt); is = refl }, tt)
+expectation_spoken None = tt
+expectation_spoken (Some n) = (record { letter = (refl, refl, refl, refl); words = (word_digits n, tt); is = refl }, tt)
 
 declaration_words : (e : Edition) (xs : List Variable) → Each (SoundVariable e) xs → Each SeenWord (map declaration_text xs)
 declaration_words e [] s = tt
@@ -116,10 +116,10 @@ pub record Sorted (e : Edition) (n : Option ℕ) (xs : List Variable) (hs : List
 
 pub header_sorted : (e : Edition) (n : Option ℕ) (xs : List Variable) → Sorted e n xs (header_said e n xs)
 unfolding every is_header lines_with tokens_with flat_map
-header_sorted e none [] = record { letters = refl; versions = refl; expectations = refl; some_declared = tt; declared = refl; weight = omega arith }
-header_sorted e none (x ∷ xs) = record { letters = refl; versions = refl; expectations = refl; some_declared = (omega arith, tt); declared = append-nil _; weight = omega arith }
-header_sorted e (some n) [] = record { letters = refl; versions = refl; expectations = refl; some_declared = tt; declared = refl; weight = omega arith }
-header_sorted e (some n) (x ∷ xs) = record { letters = refl; versions = refl; expectations = refl; some_declared = (omega arith, tt); declared = append-nil _; weight = omega arith }
+header_sorted e None [] = record { letters = refl; versions = refl; expectations = refl; some_declared = tt; declared = refl; weight = omega arith }
+header_sorted e None (x ∷ xs) = record { letters = refl; versions = refl; expectations = refl; some_declared = (omega arith, tt); declared = append-nil _; weight = omega arith }
+header_sorted e (Some n) [] = record { letters = refl; versions = refl; expectations = refl; some_declared = tt; declared = refl; weight = omega arith }
+header_sorted e (Some n) (x ∷ xs) = record { letters = refl; versions = refl; expectations = refl; some_declared = (omega arith, tt); declared = append-nil _; weight = omega arith }
 
 pub header_no_longer : (e : Edition) (n : Option ℕ) (xs : List Variable) (hs : List Said) (t : List ℕ) → lines_with (code "v") hs ≡ (t ∷ []) ∷ [] → SpellsVersion t e → SaysExpectation (lines_with (code "e") hs) n → Pairwise SpellsVariable (tokens_with (code "d") hs) xs → saids_weight (header_said e n xs) ≤ saids_weight hs
 header_no_longer e n xs hs t one v x d =

@@ -4,7 +4,7 @@ use Prim.Native.Char.{code}
 use mathlib.Core.Path.{◌≡◌, refl, sym, ap}
 use mathlib.Core.Bool.{true, false, ◌&&◌}
 use mathlib.Core.List.{List, [], ◌∷◌, ◌++◌, append_assoc}
-use mathlib.Core.Option.{some}
+use Rattle.std.specs.Prelude.{Some}
 use native.Mathlib.Decide.{dec_lt}
 use native.Mathlib.Nat.{mod-le, mod-lt, mod-eq_of_lt}
 use native.Mathlib.Omega.{arith}
@@ -57,7 +57,7 @@ module _ (t : List ℕ) (e : Edition) (h : SpellsVersion t e) where
   -- there is one edition
   pub only_edition : e ≡ edition10
   unfolding edition_numbered
-  only_edition = let p = cond_some (eqb (decimal h.major) 1 && eqb (decimal h.minor) 0) (some edition10) e h.known in cc p.1
+  only_edition = let p = cond_some (eqb (decimal h.major) 1 && eqb (decimal h.minor) 0) (Some edition10) e h.known in cc p.1
 
   pub version_spelt : SpellsVersion (version_text e) e
   unfolding version_text digits digits_in is_numeral every is_digit decimal_from edition_numbered

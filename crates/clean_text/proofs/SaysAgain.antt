@@ -3,7 +3,7 @@ use Prim.Native.Nat.{ℕ, ◌≤◌}
 use Prim.Native.Char.{code}
 use mathlib.Core.Path.{◌≡◌, sym, ap, subst, ◌∙◌}
 use mathlib.Core.List.{List, ◌∷◌, ◌++◌, map}
-use mathlib.Core.Option.{Option, some, get_or}
+use Rattle.std.specs.Prelude.{Option, Some, unwrap_or}
 use native.Mathlib.Omega.{arith}
 use lib.ListN.{length}
 use Rattle.edition.specs.declared.Edition.{Edition}
@@ -22,13 +22,13 @@ use Rattle.clean_text.proofs.StatementLaws.{statement_said, Statements, statemen
 module _ (bytes : List ℕ) (f : File) (h : Says bytes f) where
   -- ---- the edition
   edition_is : h.version.edition ≡ edition_of f
-  edition_is = ap (λ (v : Option Edition). get_or v edition10) (sym h.version.says_edition)
+  edition_is = ap (λ (v : Option Edition). unwrap_or v edition10) (sym h.version.says_edition)
 
   version_was : SpellsVersion h.version.token (edition_of f)
   version_was = subst (SpellsVersion h.version.token) edition_is h.version.spelt
 
-  pub edition_one : f.version ≡ some edition10
-  edition_one = h.version.says_edition ∙ ap some (only_edition h.version.token h.version.edition h.version.spelt)
+  pub edition_one : f.version ≡ Some edition10
+  edition_one = h.version.says_edition ∙ ap Some (only_edition h.version.token h.version.edition h.version.spelt)
 
   -- ---- the lines
   abbrev header : List Said
@@ -72,7 +72,7 @@ module _ (bytes : List ℕ) (f : File) (h : Says bytes f) where
         others = others;
         in_order = says.0.0;
         header_letters = s.letters;
-        version = record { token = version_text (edition_of f); edition = edition_of f; one = s.versions; spelt = version_spelt h.version.token (edition_of f) version_was; says_edition = h.version.says_edition ∙ ap some edition_is };
+        version = record { token = version_text (edition_of f); edition = edition_of f; one = s.versions; spelt = version_spelt h.version.token (edition_of f) version_was; says_edition = h.version.says_edition ∙ ap Some edition_is };
         expectation = rw s.expectations (subst (λ es. SaysExpectation es f.expectation) (expectation_same _ f.expectation h.expectation) h.expectation);
         some_declared = s.some_declared;
         declared = rw s.declared (declarations_again (tokens_with (code "d") h.header) f.variables h.declared).0;

@@ -1,7 +1,7 @@
 -- The clean text of a file.
 use Rattle.std.specs.Prelude.{ℕ}
 use mathlib.Core.List.{List, [], ◌∷◌, ◌++◌, map, flat_map}
-use Rattle.std.proofs.Math.Option.{Option, none, some}
+use Rattle.std.specs.Prelude.{Option, None, Some}
 use Rattle.edition.specs.declared.Edition.{Edition}
 use Rattle.refusal.specs.SubjectWords.{ascii}
 use Rattle.arithmetic.specs.declared.Word.{Word}
@@ -53,8 +53,8 @@ version_line e = line_text (ascii "v") (version_text e ∷ [])
 
 -- "the `e` line if there was one"
 unfoldable pub expectation_lines : Option ℕ → List (List ℕ)
-expectation_lines none = []
-expectation_lines (some n) = line_text (ascii "e") (digits n ∷ []) ∷ []
+expectation_lines None = []
+expectation_lines (Some n) = line_text (ascii "e") (digits n ∷ []) ∷ []
 
 -- "one `d` line with all variables in order, if any"
 unfoldable pub declaration_lines : List Variable → List (List ℕ)

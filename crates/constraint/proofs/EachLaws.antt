@@ -3,7 +3,7 @@ use Prim.Native.Nat.{ℕ, zero, suc, ◌<◌}
 use mathlib.Core.Path.{◌≡◌}
 use mathlib.Core.Bool.{Bool, false}
 use mathlib.Core.List.{List, [], ◌∷◌, ◌++◌, map, nil≢cons, cons≢nil, head-eq_of_cons-eq, tail-eq_of_cons-eq}
-use mathlib.Core.Option.{none}
+use Rattle.std.specs.Prelude.{None}
 use native.Mathlib.Omega.{arith}
 use lib.ListN.{length, get_or, take}
 use Rattle.refusal.specs.Lists.{first_from}
@@ -54,7 +54,7 @@ each_none P [] e = tt
 each_none P (x ∷ xs) e = never (cc e)
 
 -- where no element is the first to pass a test, each fails
-pub each_fails : {A : Type 0} (test : A → Bool) (n : ℕ) (xs : List A) → first_from test n xs ≡ none → Each (λ x. test x ≡ false) xs
+pub each_fails : {A : Type 0} (test : A → Bool) (n : ℕ) (xs : List A) → first_from test n xs ≡ None → Each (λ x. test x ≡ false) xs
 each_fails test n [] e = tt
 each_fails test n (x ∷ xs) e = let p = first_none test n x xs e in (p.0, each_fails test (suc n) xs p.1)
 

@@ -1,20 +1,23 @@
--- Every refusal of a constraint file speaks of it, has a number of the list, and a position within the file. Assumes nothing.
+-- Every refusal of a constraint file speaks of it, has a fault of the list, and a position within the file. Assumes nothing.
 use Prim.Native.Nat.{ℕ, zero, suc, ◌≤◌}
 use Prim.Native.Char.{code}
 use mathlib.Core.Path.{◌≡◌, refl}
 use mathlib.Core.Bool.{Bool, true, not, ◌&&◌}
 use mathlib.Core.List.{List, [], ◌∷◌}
-use mathlib.Core.Option.{Option}
+use Rattle.std.specs.Prelude.{Option}
 use native.Mathlib.Omega.{arith}
 use lib.Dec.{ltb, leb}
 use lib.ListN.{length}
 use Rattle.edition.specs.declared.Edition.{Edition}
 use Rattle.edition.specs.Edition.{max_file_bytes, max_variables, max_lines, max_name_bytes, is_width}
+use Rattle.refusal.specs.declared.Fault.{Fault}
+use Rattle.refusal.specs.Fault.{is_fault_of}
 use Rattle.refusal.specs.declared.Refusal.{Refusal}
 use Rattle.refusal.specs.declared.Subject.TheVariants.{Constraint}
-use Rattle.refusal.specs.Numbers.{wrong_version, wrong_expectation}
-use Rattle.refusal.specs.Lists.{first_from, is_there, is_one_of}
-use Rattle.refusal.specs.Result.{Result, accepted, refused}
+use Rattle.refusal.specs.declared.Fault.TheVariants.{WrongVersion, WrongExpectation}
+use Rattle.std.specs.Prelude.{is_some}
+use Rattle.refusal.specs.Lists.{first_from, is_one_of}
+use Rattle.refusal.specs.Result.{Reply, Ok, Err}
 use Rattle.refusal.proofs.RefusesLaws.{Refuses, refuses_accepted, refuses_refused, refuses_cond, refuses_bind, refuses_ensure, refuses_given}
 use Rattle.arithmetic.specs.Rules.{arity}
 use Rattle.text.specs.Lines.{TextLine, Token, arguments}
@@ -30,18 +33,18 @@ use Rattle.constraint.specs.File.{Variable, File, empty_file, with_version, with
 use Rattle.constraint.specs.TypeRules.{well_typed}
 use Rattle.constraint.specs.Read.{in_header, read_single, version_of, read_version, expectation_of, read_expectation, declare, declare_all, read_declarations, read_variable, read_constant, read_operand, next_operand, read_operands, read_operation, next_output, read_statement, add_line, kind_of, read_as, read_line, read_file}
 use Rattle.constraint.specs.Sound.{Each}
-use Rattle.constraint.specs.Refusals.{constraint_numbers}
+use Rattle.constraint.specs.Refusals.{constraint_faults}
 use Rattle.refusal.proofs.EndsLaws.{Ends, ends_accepted, ends_always, ends_bind, refuses_after}
 use Rattle.constraint.proofs.WithinLaws.{LineWithin, TokenWithin, FileRefusal, Readable, arguments_within, start_within, placed, next_within, no_more_within, text_ends}
 
 -- a refusal of the file
 abbrev OfConstraint : List ℕ → Refusal → Type 0
-OfConstraint = FileRefusal Constraint constraint_numbers
+OfConstraint = FileRefusal Constraint constraint_faults
 
-module _ {bytes : List ℕ} (c : Readable Constraint constraint_numbers bytes) where
+module _ {bytes : List ℕ} (c : Readable Constraint constraint_faults bytes) where
   -- ---- the header
-  single_refuses : {A : Type 0} (allowed : Bool) (parse : List ℕ → Option A) (wrong : ℕ) (add : A → File) (l : TextLine) → is_one_of wrong constraint_numbers ≡ true → LineWithin bytes l → Refuses (OfConstraint bytes) (read_single allowed parse wrong add l)
-  unfolding read_single constraint_numbers is_one_of first_from
+  single_refuses : {A : Type 0} (allowed : Bool) (parse : List ℕ → Option A) (wrong : Fault) (add : A → File) (l : TextLine) → is_fault_of wrong constraint_faults ≡ true → LineWithin bytes l → Refuses (OfConstraint bytes) (read_single allowed parse wrong add l)
+  unfolding read_single constraint_faults is_one_of first_from
   single_refuses allowed parse wrong add l w h =
       refuses_ensure allowed _ (placed c refl (start_within bytes l h)) (
       refuses_after (next_within c l (arguments l) h (arguments_within bytes l h)) λ p k.
@@ -49,22 +52,22 @@ module _ {bytes : List ℕ} (c : Readable Constraint constraint_numbers bytes) w
       no_more_within c p.1 k.1 refuses_accepted)
 
   version_refuses : (f : File) (l : TextLine) → LineWithin bytes l → Refuses (OfConstraint bytes) (read_version f l)
-  unfolding read_version constraint_numbers is_one_of first_from
-  version_refuses f l h = single_refuses (in_header f && not (is_there f.version)) version_of wrong_version (with_version f) l refl h
+  unfolding read_version constraint_faults is_one_of first_from
+  version_refuses f l h = single_refuses (in_header f && not (is_some f.version)) version_of WrongVersion (with_version f) l refl h
 
   expectation_refuses : (f : File) (l : TextLine) → LineWithin bytes l → Refuses (OfConstraint bytes) (read_expectation f l)
-  unfolding read_expectation constraint_numbers is_one_of first_from
-  expectation_refuses f l h = single_refuses (in_header f && not (is_there f.expectation)) expectation_of wrong_expectation (with_expectation f) l refl h
+  unfolding read_expectation constraint_faults is_one_of first_from
+  expectation_refuses f l h = single_refuses (in_header f && not (is_some f.expectation)) expectation_of WrongExpectation (with_expectation f) l refl h
 
   declare_refuses : (e : Edition) (xs : List Variable) (t : Token) → TokenWithin bytes t → Refuses (OfConstraint bytes) (declare e xs t)
-  unfolding declare constraint_numbers is_one_of first_from
+  unfolding declare constraint_faults is_one_of first_from
   declare_refuses e xs t h =
       let name = up_to (code ":") t.bytes in
       let type = behind (code ":") t.bytes in
       refuses_ensure (is_name name && is_type type) _ (placed c refl h) (
       refuses_ensure (is_width (type_width type)) _ (placed c refl h) (
       refuses_ensure (leb (length name) max_name_bytes && ltb (length xs) max_variables) _ (placed c refl h) (
-      refuses_ensure (not (is_reserved e name) && not (is_there (variable_named name xs))) _ (placed c refl h)
+      refuses_ensure (not (is_reserved e name) && not (is_some (variable_named name xs))) _ (placed c refl h)
       refuses_accepted)))
 
   declare_all_refuses : (f : File) (ts : List Token) → Each (TokenWithin bytes) ts → Refuses (OfConstraint bytes) (declare_all f ts)
@@ -73,7 +76,7 @@ module _ {bytes : List ℕ} (c : Readable Constraint constraint_numbers bytes) w
   declare_all_refuses f (t ∷ ts) hs = refuses_bind (declare_refuses (edition_of f) f.variables t hs.0) λ x. declare_all_refuses (with_variable f x) ts hs.1
 
   declarations_refuse : (f : File) (l : TextLine) → LineWithin bytes l → Refuses (OfConstraint bytes) (read_declarations f l)
-  unfolding read_declarations constraint_numbers is_one_of first_from
+  unfolding read_declarations constraint_faults is_one_of first_from
   declarations_refuse f l h =
       refuses_ensure (in_header f) _ (placed c refl (start_within bytes l h)) (
       refuses_after (next_within c l (arguments l) h (arguments_within bytes l h)) λ p k.
@@ -81,14 +84,14 @@ module _ {bytes : List ℕ} (c : Readable Constraint constraint_numbers bytes) w
 
   -- ---- the lines
   variable_refuses : (xs : List Variable) (t : Token) → TokenWithin bytes t → Refuses (OfConstraint bytes) (read_variable xs t)
-  unfolding read_variable constraint_numbers is_one_of first_from
+  unfolding read_variable constraint_faults is_one_of first_from
   variable_refuses xs t h =
       refuses_ensure (leb (length t.bytes) max_name_bytes) _ (placed c refl h) (
       refuses_given (variable_named t.bytes xs) _ (placed c refl h) λ i.
       refuses_accepted)
 
   constant_refuses : (t : Token) → TokenWithin bytes t → Refuses (OfConstraint bytes) (read_constant t)
-  unfolding read_constant constraint_numbers is_one_of first_from
+  unfolding read_constant constraint_faults is_one_of first_from
   constant_refuses t h =
       let number = up_to (code ":") t.bytes in
       let type = behind (code ":") t.bytes in
@@ -118,7 +121,7 @@ module _ {bytes : List ℕ} (c : Readable Constraint constraint_numbers bytes) w
       ends_accepted k
 
   operation_refuses : (f : File) (l : TextLine) (output : Operand) (ts : List Token) → LineWithin bytes l → Each (TokenWithin bytes) ts → Refuses (OfConstraint bytes) (read_operation f l output ts)
-  unfolding read_operation constraint_numbers is_one_of first_from
+  unfolding read_operation constraint_faults is_one_of first_from
   operation_refuses f l output ts h ks =
       refuses_after (next_within c l ts h ks) λ p k.
       refuses_given (operator_named (edition_of f) p.0.bytes) _ (placed c refl k.0) λ op.
@@ -133,19 +136,19 @@ module _ {bytes : List ℕ} (c : Readable Constraint constraint_numbers bytes) w
   output_ends Predicate xs l ts h ks = ends_accepted ks
 
   statement_refuses : (form : Form) (f : File) (l : TextLine) → LineWithin bytes l → Refuses (OfConstraint bytes) (read_statement form f l)
-  unfolding read_statement constraint_numbers is_one_of first_from
+  unfolding read_statement constraint_faults is_one_of first_from
   statement_refuses form f l h =
       refuses_ensure (ltb (length f.lines) max_lines) _ (placed c refl (start_within bytes l h)) (
       refuses_after (output_ends form f.variables l (arguments l) h (arguments_within bytes l h)) λ p k.
       operation_refuses f l p.0 p.1 h k)
 
-  add_refuses : (f : File) {r : Result Line} → Refuses (OfConstraint bytes) r → Refuses (OfConstraint bytes) (add_line f r)
-  add_refuses f {r = accepted line} h = refuses_accepted
-  add_refuses f {r = refused r} h = refuses_refused (h.holds r refl)
+  add_refuses : (f : File) {r : Reply Line} → Refuses (OfConstraint bytes) r → Refuses (OfConstraint bytes) (add_line f r)
+  add_refuses f {r = Ok line} h = refuses_accepted
+  add_refuses f {r = Err r} h = refuses_refused (h.holds r refl)
 
   -- ---- the file
   as_refuses : (k : Kind) (f : File) (l : TextLine) → LineWithin bytes l → Refuses (OfConstraint bytes) (read_as k f l)
-  unfolding read_as constraint_numbers is_one_of first_from
+  unfolding read_as constraint_faults is_one_of first_from
   as_refuses Skipped f l h = refuses_accepted
   as_refuses OfVersion f l h = version_refuses f l h
   as_refuses OfExpectation f l h = expectation_refuses f l h
@@ -157,14 +160,14 @@ module _ {bytes : List ℕ} (c : Readable Constraint constraint_numbers bytes) w
   unfolding read_line
   line_refuses f l h = as_refuses (kind_of l.bytes) f l h
 
--- the numbers of any file are of the list
-readable : (bytes : List ℕ) → length bytes ≤ max_file_bytes → Readable Constraint constraint_numbers bytes
-unfolding constraint_numbers is_one_of first_from
+-- the faults of any file are of the list
+readable : (bytes : List ℕ) → length bytes ≤ max_file_bytes → Readable Constraint constraint_faults bytes
+unfolding constraint_faults is_one_of first_from
 readable bytes h = record { short = h; byte = refl; count = refl }
 
-pub file_refuses : (bytes : List ℕ) → Refuses (FileRefusal Constraint constraint_numbers bytes) (read_file bytes)
-unfolding read_file constraint_numbers is_one_of first_from
+pub file_refuses : (bytes : List ℕ) → Refuses (FileRefusal Constraint constraint_faults bytes) (read_file bytes)
+unfolding read_file constraint_faults is_one_of first_from
 file_refuses bytes =
-    refuses_after (text_ends Constraint constraint_numbers bytes refl (readable bytes) read_line line_refuses empty_file) λ f c.
-    refuses_ensure (is_there f.version) _ (placed c refl (omega arith))
+    refuses_after (text_ends Constraint constraint_faults bytes refl (readable bytes) read_line line_refuses empty_file) λ f c.
+    refuses_ensure (is_some f.version) _ (placed c refl (omega arith))
     refuses_accepted

@@ -10,9 +10,9 @@ use borrow.Author.Tests.{leb-true}
 use Rattle.edition.specs.declared.Edition.{Edition}
 use Rattle.edition.specs.Edition.{max_file_bytes}
 use Rattle.refusal.specs.declared.Subject.TheVariants.{Constraint}
-use Rattle.refusal.specs.Numbers.{wrong_version, wrong_expectation}
-use Rattle.refusal.specs.Lists.{is_there}
-use Rattle.refusal.specs.Result.{accepted}
+use Rattle.refusal.specs.declared.Fault.TheVariants.{WrongVersion, WrongExpectation}
+use Rattle.std.specs.Prelude.{is_some}
+use Rattle.refusal.specs.Result.{Ok}
 use Rattle.refusal.proofs.ResultLaws.{Yields, yields_accepted, yields_refused, yields_bind, yields_ensure, yields_also, yields_itself}
 use Rattle.text.specs.Lines.{TextLine, text_lines}
 use Rattle.text.specs.Reading.{read_lines, read_text}
@@ -44,14 +44,14 @@ with_version_lem f e h = record {
 
 version_keeps : (f : File) (l : TextLine) → SoundFile f → Yields SoundFile (read_version f l)
 unfolding read_version
-version_keeps f l h = single_yields (in_header f && not (is_there f.version)) version_of wrong_version (with_version f) l (λ t e _ _ _. with_version_lem f e h)
+version_keeps f l h = single_yields (in_header f && not (is_some f.version)) version_of WrongVersion (with_version f) l (λ t e _ _ _. with_version_lem f e h)
 
 with_expectation_lem : (f : File) (n : ℕ) → SoundFile f → SoundFile (with_expectation f n)
 with_expectation_lem f n h = record { few_variables = h.few_variables; few_lines = h.few_lines; variables = h.variables; distinct = h.distinct; lines = h.lines }
 
 expectation_keeps : (f : File) (l : TextLine) → SoundFile f → Yields SoundFile (read_expectation f l)
 unfolding read_expectation
-expectation_keeps f l h = single_yields (in_header f && not (is_there f.expectation)) expectation_of wrong_expectation (with_expectation f) l (λ t n _ _ _. with_expectation_lem f n h)
+expectation_keeps f l h = single_yields (in_header f && not (is_some f.expectation)) expectation_of WrongExpectation (with_expectation f) l (λ t n _ _ _. with_expectation_lem f n h)
 
 as_keeps : (k : Kind) (f : File) (l : TextLine) → SoundFile f → Yields SoundFile (read_as k f l)
 unfolding read_as
@@ -73,7 +73,7 @@ file_yields : (bytes : List ℕ) → Yields SoundFile (read_file bytes)
 unfolding read_file
 file_yields bytes =
     yields_bind (keeps_text Constraint read_line line_keeps empty_file bytes empty_sound) λ f h.
-    yields_ensure (is_there f.version) _ λ _.
+    yields_ensure (is_some f.version) _ λ _.
     yields_accepted h
 
 pub accepted_is_sound : AcceptedIsSound
@@ -84,9 +84,9 @@ within : (bytes : List ℕ) → Yields (λ f. length bytes ≤ max_file_bytes) (
 unfolding read_file read_text
 within bytes =
     yields_bind (yields_ensure (leb (length bytes) max_file_bytes) _ λ e. yields_also (λ f h. leb-true (length bytes) max_file_bytes e) (yields_itself (read_lines Constraint read_line empty_file (text_lines bytes)))) λ f h.
-    yields_ensure (is_there f.version) _ λ t.
+    yields_ensure (is_some f.version) _ λ t.
     yields_accepted h
 
 -- a file that is read is no longer than a file may be
-pub read_short : (bytes : List ℕ) (f : File) → read_file bytes ≡ accepted f → length bytes ≤ max_file_bytes
+pub read_short : (bytes : List ℕ) (f : File) → read_file bytes ≡ Ok f → length bytes ≤ max_file_bytes
 read_short bytes f e = (within bytes).holds f e

@@ -4,15 +4,16 @@ use Prim.Native.Char.{code}
 use mathlib.Core.Path.{◌≡◌, refl, ap, ◌∙◌}
 use mathlib.Core.Bool.{Bool, true, false, not, ◌&&◌}
 use mathlib.Core.List.{List, [], ◌∷◌, ◌++◌, append_assoc}
-use mathlib.Core.Option.{Option, none, some}
+use Rattle.std.specs.Prelude.{Option, None, Some}
 use lib.Dec.{leb, ltb}
 use lib.ListN.{length}
 use borrow.Author.Tests.{le-leb, lt-ltb}
 use Rattle.edition.specs.declared.Edition.{Edition}
 use Rattle.edition.specs.Edition.{edition_numbered, max_variables, max_name_bytes, is_width}
+use Rattle.refusal.specs.declared.Fault.{Fault}
 use Rattle.refusal.specs.declared.Subject.TheVariants.{Constraint}
-use Rattle.refusal.specs.Lists.{is_there}
-use Rattle.refusal.specs.Result.{Result, accepted, refused}
+use Rattle.std.specs.Prelude.{is_some}
+use Rattle.refusal.specs.Result.{Reply, Ok, Err}
 use Rattle.refusal.specs.SubjectWords.{ascii}
 use Rattle.refusal.proofs.BoolLaws.{and_true}
 use Rattle.refusal.proofs.ListLaws.{cond_some}
@@ -39,9 +40,9 @@ use Rattle.constraint.proofs.NamedLaws.{named_sound, named_at}
 pub record VersionParts (s : List ℕ) (e : Edition) : Type 0 where
   pub major : is_numeral max_version_digits (up_to (code ".") s) ≡ true
   pub minor : is_numeral max_version_digits (behind (code ".") s) ≡ true
-  pub found : edition_numbered (decimal (up_to (code ".") s)) (decimal (behind (code ".") s)) ≡ some e
+  pub found : edition_numbered (decimal (up_to (code ".") s)) (decimal (behind (code ".") s)) ≡ Some e
 
-pub version_parts : (s : List ℕ) (e : Edition) → version_of s ≡ some e → VersionParts s e
+pub version_parts : (s : List ℕ) (e : Edition) → version_of s ≡ Some e → VersionParts s e
 unfolding version_of
 version_parts s e h =
     let major = up_to (code ".") s in
@@ -60,18 +61,18 @@ module _ (t : Token) (xs : List Variable) where
   type = behind (code ":") t.bytes
 
   pub declare_yields : {Q : Variable → Type 0} (e : Edition)
-      → (is_name front ≡ true → is_type type ≡ true → is_width (type_width type) ≡ true → leb (length front) max_name_bytes ≡ true → ltb (length xs) max_variables ≡ true → not (is_reserved e front) ≡ true → not (is_there (variable_named front xs)) ≡ true → Q (record { name = front; width = type_width type }))
+      → (is_name front ≡ true → is_type type ≡ true → is_width (type_width type) ≡ true → leb (length front) max_name_bytes ≡ true → ltb (length xs) max_variables ≡ true → not (is_reserved e front) ≡ true → not (is_some (variable_named front xs)) ≡ true → Q (record { name = front; width = type_width type }))
       → Yields Q (declare e xs t)
   unfolding declare
   declare_yields e h =
       yields_both (is_name front) (is_type type) _ λ n k.
       yields_ensure (is_width (type_width type)) _ λ w.
       yields_both (leb (length front) max_name_bytes) (ltb (length xs) max_variables) _ λ s r.
-      yields_both (not (is_reserved e front)) (not (is_there (variable_named front xs))) _ λ u d.
+      yields_both (not (is_reserved e front)) (not (is_some (variable_named front xs))) _ λ u d.
       yields_accepted (h n k w s r u d)
 
   pub operand_yields : {Q : Operand → Type 0}
-      → ((i : ℕ) → variable_named t.bytes xs ≡ some i → Q (Var i))
+      → ((i : ℕ) → variable_named t.bytes xs ≡ Some i → Q (Var i))
       → (is_numeral max_digits front ≡ true → is_type type ≡ true → is_width (type_width type) ≡ true → ltb (decimal front) number_bound ≡ true → Q (Const (record { width = type_width type; value = decimal front % 2 ^ type_width type })))
       → Yields Q (read_operand xs t)
   unfolding read_operand read_variable read_constant
@@ -87,14 +88,14 @@ module _ (t : Token) (xs : List Variable) where
 -- ---- a text in front of a type is read to what it spells
 module _ (t : Token) (s d : List ℕ) (q : t.bytes ≡ s ++ ascii ":" ++ (code "i" ∷ d)) (type : is_type (code "i" ∷ d) ≡ true) (width : is_width (decimal d) ≡ true) where
   -- a name that is free declares a variable
-  pub declare_spelt : (e : Edition) (xs : List Variable) → is_name s ≡ true → length s ≤ max_name_bytes → is_reserved e s ≡ false → variable_named s xs ≡ none → length xs < max_variables → declare e xs t ≡ accepted (record { name = s; width = decimal d })
+  pub declare_spelt : (e : Edition) (xs : List Variable) → is_name s ≡ true → length s ≤ max_name_bytes → is_reserved e s ≡ false → variable_named s xs ≡ None → length xs < max_variables → declare e xs t ≡ Ok (record { name = s; width = decimal d })
   unfolding declare
   declare_spelt e xs name short free new room =
       let c = name_no_colon s name in
       rw (q, up_to_join (code ":") (code "i" ∷ d) s c, behind_join (code ":") (code "i" ∷ d) s c, name, type, width, le-leb (length s) max_name_bytes short, lt-ltb (length xs) max_variables room, free, new)
 
   -- digits are a constant
-  pub constant_spelt : (xs : List Variable) → is_numeral max_digits s ≡ true → decimal s < number_bound → read_operand xs t ≡ accepted (Const (record { width = decimal d; value = decimal s % 2 ^ decimal d }))
+  pub constant_spelt : (xs : List Variable) → is_numeral max_digits s ≡ true → decimal s < number_bound → read_operand xs t ≡ Ok (Const (record { width = decimal d; value = decimal s % 2 ^ decimal d }))
   unfolding read_operand read_constant is_digit
   constant_spelt xs number below =
       let p = numeral_parts max_digits s number in
@@ -103,15 +104,15 @@ module _ (t : Token) (s d : List ℕ) (q : t.bytes ≡ s ++ ascii ":" ++ (code "
       rw (q, n, up_to_join (code ":") (code "i" ∷ d) s c, behind_join (code ":") (code "i" ∷ d) s c, number, type, width, lt-ltb (decimal s) number_bound below)
 
 -- ---- the name of a variable
-pub variable_spelt : (e : Edition) (xs : List Variable) → Each (SoundVariable e) xs → Distinct xs → (i : ℕ) → i < length xs → (t : Token) → t.bytes ≡ name_at xs i → read_operand xs t ≡ accepted (Var i)
+pub variable_spelt : (e : Edition) (xs : List Variable) → Each (SoundVariable e) xs → Distinct xs → (i : ℕ) → i < length xs → (t : Token) → t.bytes ≡ name_at xs i → read_operand xs t ≡ Ok (Var i)
 unfolding read_operand read_variable
 variable_spelt e xs sound distinct i h t q =
     let s = named_sound e xs i sound h in
     rw (q, s.0, le-leb (length (name_at xs i)) max_name_bytes s.1, named_at xs distinct i h)
 
 -- ---- a line with one token: what holds by that token, and what it is read to
-module _ {A : Type 0} (allowed : Bool) (parse : List ℕ → Option A) (wrong : ℕ) (add : A → File) (l : TextLine) where
-  pub single_yields : {Q : File → Type 0} → ((t : Token) (a : A) → allowed ≡ true → arguments l ≡ t ∷ [] → parse t.bytes ≡ some a → Q (add a)) → Yields Q (read_single allowed parse wrong add l)
+module _ {A : Type 0} (allowed : Bool) (parse : List ℕ → Option A) (wrong : Fault) (add : A → File) (l : TextLine) where
+  pub single_yields : {Q : File → Type 0} → ((t : Token) (a : A) → allowed ≡ true → arguments l ≡ t ∷ [] → parse t.bytes ≡ Some a → Q (add a)) → Yields Q (read_single allowed parse wrong add l)
   unfolding read_single
   single_yields h =
       yields_ensure allowed _ λ e.
@@ -120,13 +121,13 @@ module _ {A : Type 0} (allowed : Bool) (parse : List ℕ → Option A) (wrong : 
       yields_no_more Constraint p.1 λ z.
       yields_accepted (h p.0 a e (q ∙ ap (λ (ts : List Token). p.0 ∷ ts) z) k)
 
-  pub single_again : (w : List ℕ) (a : A) → allowed ≡ true → token_bytes (arguments l) ≡ w ∷ [] → parse w ≡ some a → read_single allowed parse wrong add l ≡ accepted (add a)
+  pub single_again : (w : List ℕ) (a : A) → allowed ≡ true → token_bytes (arguments l) ≡ w ∷ [] → parse w ≡ Some a → read_single allowed parse wrong add l ≡ Ok (add a)
   unfolding read_single
   single_again w a h e p =
       let q = first_token (arguments l) w [] e in
       rw (h, q.2, q.3, p, no_token q.1 q.4)
 
 -- ---- a line that is added
-pub add_yields : {Q : File → Type 0} (f : File) {r : Result Line} → Yields (λ line. Q (with_line f line)) r → Yields Q (add_line f r)
-add_yields f {r = accepted line} h = yields_accepted (h.holds line refl)
-add_yields f {r = refused r} h = yields_refused
+pub add_yields : {Q : File → Type 0} (f : File) {r : Reply Line} → Yields (λ line. Q (with_line f line)) r → Yields Q (add_line f r)
+add_yields f {r = Ok line} h = yields_accepted (h.holds line refl)
+add_yields f {r = Err r} h = yields_refused

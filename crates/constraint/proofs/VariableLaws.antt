@@ -3,7 +3,7 @@ use Prim.Native.Nat.{ℕ, zero, suc, ◌+◌, ◌<◌}
 use mathlib.Core.Path.{◌≡◌, sym, ◌∙◌}
 use mathlib.Core.Bool.{true, false}
 use mathlib.Core.List.{List, [], ◌∷◌}
-use mathlib.Core.Option.{none, some}
+use Rattle.std.specs.Prelude.{None, Some}
 use native.Mathlib.Nat.{add-zero}
 use native.Mathlib.Omega.{arith}
 use lib.ListN.{length, get_or}
@@ -34,17 +34,17 @@ variable_width e xs i h p = width_test _ (each_at (SoundVariable e) xs i (record
 differs : (name : List ℕ) (y : Variable) → same y.name name ≡ false → y.name ≡ name → ⊥
 differs name y e q = never (cc (same_self name))
 
-pub new_name_lem : (name : List ℕ) (xs : List Variable) → variable_named name xs ≡ none → Each (λ y. y.name ≡ name → ⊥) xs
+pub new_name_lem : (name : List ℕ) (xs : List Variable) → variable_named name xs ≡ None → Each (λ y. y.name ≡ name → ⊥) xs
 unfolding variable_named
 new_name_lem name xs e = each_map (differs name) xs (each_fails (λ y. same y.name name) 0 xs e)
 
 -- a name that is found has the number of a variable
-pub variable_within : (name : List ℕ) (xs : List Variable) (i : ℕ) → variable_named name xs ≡ some i → i < length xs
+pub variable_within : (name : List ℕ) (xs : List Variable) (i : ℕ) → variable_named name xs ≡ Some i → i < length xs
 unfolding variable_named
 variable_within name xs i e = let h = first_below (λ y. same y.name name) 0 i xs e in omega arith
 
 -- where no two names are the same, any variable that has the name is the one found
-pub first_named : (name : List ℕ) (d : Variable) (xs : List Variable) (k i : ℕ) → Distinct xs → i < length xs → (get_or xs i d).name ≡ name → first_from (λ x. same x.name name) k xs ≡ some (k + i)
+pub first_named : (name : List ℕ) (d : Variable) (xs : List Variable) (k i : ℕ) → Distinct xs → i < length xs → (get_or xs i d).name ≡ name → first_from (λ x. same x.name name) k xs ≡ Some (k + i)
 unfolding first_from
 first_named name d [] k i u h e = let z : ⊥ = omega arith in absurd z
 first_named name d (x ∷ xs) k zero u h e = rw (e, same_self name, add-zero k)

@@ -9,10 +9,12 @@ use lib.ListN.{length, drop}
 use borrow.Author.Tests.{leb-true, leb-false}
 use Rattle.edition.specs.Edition.{max_file_bytes}
 use Rattle.refusal.specs.declared.Subject.{Subject}
+use Rattle.refusal.specs.declared.Fault.{Fault}
+use Rattle.refusal.specs.Fault.{is_fault_of}
 use Rattle.refusal.specs.declared.Refusal.{Refusal}
-use Rattle.refusal.specs.Numbers.{file_too_long, byte_not_allowed, token_count}
-use Rattle.refusal.specs.Lists.{every, is_one_of}
-use Rattle.refusal.specs.Result.{Result, refusal, ensure, ◌>>◌}
+use Rattle.refusal.specs.declared.Fault.TheVariants.{FileTooLong, ByteNotAllowed, TokenCount}
+use Rattle.refusal.specs.Lists.{every}
+use Rattle.refusal.specs.Result.{Reply, refusal, ensure, ◌>>◌}
 use Rattle.refusal.proofs.RefusesLaws.{Refuses, refuses_accepted, refuses_refused, refuses_cond, refuses_bind, refuses_ensure}
 use Rattle.refusal.proofs.EndsLaws.{Ends, ends_accepted, ends_refused, ends_always}
 use Rattle.text.specs.Bytes.{front_of, is_space, is_line_feed, is_allowed}
@@ -70,53 +72,53 @@ module _ (bytes : List ℕ) where
   start_within l h = omega arith
 
 -- ---- the refusals of a file
--- a refusal speaks of the file, its number is one of a list, and its position is behind neither the bytes nor the longest file
-pub record FileRefusal (file : Subject) (numbers bytes : List ℕ) (r : Refusal) : Type 0 where
+-- a refusal speaks of the file, its fault is one of a list, and its position is behind neither the bytes nor the longest file
+pub record FileRefusal (file : Subject) (faults : List Fault) (bytes : List ℕ) (r : Refusal) : Type 0 where
   pub speaks : r.subject ≡ file
-  pub number : is_one_of r.number numbers ≡ true
+  pub number : is_fault_of r.fault faults ≡ true
   pub within : r.position ≤ length bytes
   pub limited : r.position ≤ max_file_bytes
 
--- a file that is not too long; the numbers of any line are of its list
-pub record Readable (file : Subject) (numbers bytes : List ℕ) : Type 0 where
+-- a file that is not too long; the faults of any line are of its list
+pub record Readable (file : Subject) (faults : List Fault) (bytes : List ℕ) : Type 0 where
   pub short : length bytes ≤ max_file_bytes
-  pub byte : is_one_of byte_not_allowed numbers ≡ true
-  pub count : is_one_of token_count numbers ≡ true
+  pub byte : is_fault_of ByteNotAllowed faults ≡ true
+  pub count : is_fault_of TokenCount faults ≡ true
 
-module _ {file : Subject} {numbers bytes : List ℕ} (c : Readable file numbers bytes) where
-  pub placed : {number position : ℕ} → is_one_of number numbers ≡ true → position ≤ length bytes → FileRefusal file numbers bytes (refusal file number position)
+module _ {file : Subject} {faults : List Fault} {bytes : List ℕ} (c : Readable file faults bytes) where
+  pub placed : {fault : Fault} {position : ℕ} → is_fault_of fault faults ≡ true → position ≤ length bytes → FileRefusal file faults bytes (refusal file fault position)
   placed e h = let s = c.short in record { speaks = refl; number = e; within = h; limited = omega arith }
 
   -- a token, and those behind it
-  pub next_within : (l : TextLine) (ts : List Token) → LineWithin bytes l → Each (TokenWithin bytes) ts → Ends (FileRefusal file numbers bytes) (λ p. TokenWithin bytes p.0 × Each (TokenWithin bytes) p.1) (next_token file l ts)
+  pub next_within : (l : TextLine) (ts : List Token) → LineWithin bytes l → Each (TokenWithin bytes) ts → Ends (FileRefusal file faults bytes) (λ p. TokenWithin bytes p.0 × Each (TokenWithin bytes) p.1) (next_token file l ts)
   next_within l [] h ks = ends_refused (placed c.count h)
   next_within l (t ∷ ts) h ks = ends_accepted ks
 
   -- no token, then the next step
-  pub no_more_within : {B : Type 0} (ts : List Token) {next : Result B} → Each (TokenWithin bytes) ts → Refuses (FileRefusal file numbers bytes) next → Refuses (FileRefusal file numbers bytes) (no_more_tokens file ts >> next)
+  pub no_more_within : {B : Type 0} (ts : List Token) {next : Reply B} → Each (TokenWithin bytes) ts → Refuses (FileRefusal file faults bytes) next → Refuses (FileRefusal file faults bytes) (no_more_tokens file ts >> next)
   no_more_within [] ks h = h
   no_more_within (t ∷ ts) ks h = refuses_refused (placed c.count ks.0)
 
   -- what holds of each line holds of the whole
-  module _ {State : Type 0} (read_line : State → TextLine → Result State) (line : (s : State) (l : TextLine) → LineWithin bytes l → Refuses (FileRefusal file numbers bytes) (read_line s l)) where
-    any_line_within : (s : State) (l : TextLine) → LineWithin bytes l → Refuses (FileRefusal file numbers bytes) (read_any_line file read_line s l)
+  module _ {State : Type 0} (read_line : State → TextLine → Reply State) (line : (s : State) (l : TextLine) → LineWithin bytes l → Refuses (FileRefusal file faults bytes) (read_line s l)) where
+    any_line_within : (s : State) (l : TextLine) → LineWithin bytes l → Refuses (FileRefusal file faults bytes) (read_any_line file read_line s l)
     unfolding read_any_line
     any_line_within s l h = refuses_ensure (every is_allowed l.bytes) _ (placed c.byte (omega (arith, run_short is_allowed l.bytes))) (refuses_cond (every is_space l.bytes) refuses_accepted (line s l h))
 
-    all_lines_within : (s : State) (ls : List TextLine) → Each (LineWithin bytes) ls → Refuses (FileRefusal file numbers bytes) (read_lines file read_line s ls)
+    all_lines_within : (s : State) (ls : List TextLine) → Each (LineWithin bytes) ls → Refuses (FileRefusal file faults bytes) (read_lines file read_line s ls)
     unfolding read_lines
     all_lines_within s [] hs = refuses_accepted
     all_lines_within s (l ∷ ls) hs = refuses_bind (any_line_within s l hs.0) λ t. all_lines_within t ls hs.1
 
-    lines_refuse : (s : State) → Refuses (FileRefusal file numbers bytes) (read_lines file read_line s (text_lines bytes))
+    lines_refuse : (s : State) → Refuses (FileRefusal file faults bytes) (read_lines file read_line s (text_lines bytes))
     lines_refuse s = all_lines_within s (text_lines bytes) (lines_within bytes true 0 bytes (omega arith))
 
 -- a file that is too long is refused at the limit, and one that is accepted is not too long
-module _ (file : Subject) (numbers bytes : List ℕ) (long : is_one_of file_too_long numbers ≡ true) (readable : length bytes ≤ max_file_bytes → Readable file numbers bytes) where
-  length_ends : {B : Type 0} {next : Result B} (t : Bool) → leb (length bytes) max_file_bytes ≡ t → (Readable file numbers bytes → Refuses (FileRefusal file numbers bytes) next) → Ends (FileRefusal file numbers bytes) (λ b. Readable file numbers bytes) (ensure t (refusal file file_too_long max_file_bytes) >> next)
+module _ (file : Subject) (faults : List Fault) (bytes : List ℕ) (long : is_fault_of FileTooLong faults ≡ true) (readable : length bytes ≤ max_file_bytes → Readable file faults bytes) where
+  length_ends : {B : Type 0} {next : Reply B} (t : Bool) → leb (length bytes) max_file_bytes ≡ t → (Readable file faults bytes → Refuses (FileRefusal file faults bytes) next) → Ends (FileRefusal file faults bytes) (λ b. Readable file faults bytes) (ensure t (refusal file FileTooLong max_file_bytes) >> next)
   length_ends true e n = let c = readable (leb-true (length bytes) max_file_bytes e) in ends_always (n c) λ b. c
   length_ends false e n = let z = leb-false (length bytes) max_file_bytes e in ends_refused (record { speaks = refl; number = long; within = omega arith; limited = omega arith })
 
-  pub text_ends : {State : Type 0} (read_line : State → TextLine → Result State) → (Readable file numbers bytes → (s : State) (l : TextLine) → LineWithin bytes l → Refuses (FileRefusal file numbers bytes) (read_line s l)) → (s : State) → Ends (FileRefusal file numbers bytes) (λ t. Readable file numbers bytes) (read_text file read_line s bytes)
+  pub text_ends : {State : Type 0} (read_line : State → TextLine → Reply State) → (Readable file faults bytes → (s : State) (l : TextLine) → LineWithin bytes l → Refuses (FileRefusal file faults bytes) (read_line s l)) → (s : State) → Ends (FileRefusal file faults bytes) (λ t. Readable file faults bytes) (read_text file read_line s bytes)
   unfolding read_text
   text_ends read_line line s = length_ends (leb (length bytes) max_file_bytes) refl λ c. lines_refuse c read_line (line c) s

@@ -1,23 +1,24 @@
--- Which numbers the refusals of a constraint file have.
-use Rattle.std.specs.Prelude.{ℕ, List, [], ◌∷◌}
-use Rattle.refusal.specs.Numbers.{file_too_long, byte_not_allowed, unknown_line, misplaced_line, wrong_version, wrong_expectation, token_count, misspelt, not_a_width, number_too_large, over_limit, name_taken, not_declared, unknown_operator, type_rule_broken}
+-- Which faults a constraint file can have.
+use Rattle.std.specs.Prelude.{List, [], ◌∷◌}
+use Rattle.refusal.specs.declared.Fault.{Fault}
+use Rattle.refusal.specs.declared.Fault.TheVariants.{FileTooLong, ByteNotAllowed, UnknownLine, MisplacedLine, WrongVersion, WrongExpectation, TokenCount, Misspelt, NotAWidth, NumberTooLarge, OverLimit, NameTaken, NotDeclared, UnknownOperator, TypeRuleBroken}
 
 -- 1 to 15
-unfoldable pub constraint_numbers : List ℕ
-constraint_numbers =
-    file_too_long
-    ∷ byte_not_allowed
-    ∷ unknown_line
-    ∷ misplaced_line
-    ∷ wrong_version
-    ∷ wrong_expectation
-    ∷ token_count
-    ∷ misspelt
-    ∷ not_a_width
-    ∷ number_too_large
-    ∷ over_limit
-    ∷ name_taken
-    ∷ not_declared
-    ∷ unknown_operator
-    ∷ type_rule_broken
+unfoldable pub constraint_faults : List Fault
+constraint_faults =
+    FileTooLong
+    ∷ ByteNotAllowed
+    ∷ UnknownLine
+    ∷ MisplacedLine
+    ∷ WrongVersion
+    ∷ WrongExpectation
+    ∷ TokenCount
+    ∷ Misspelt
+    ∷ NotAWidth
+    ∷ NumberTooLarge
+    ∷ OverLimit
+    ∷ NameTaken
+    ∷ NotDeclared
+    ∷ UnknownOperator
+    ∷ TypeRuleBroken
     ∷ []

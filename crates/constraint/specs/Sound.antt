@@ -2,7 +2,7 @@
 use Rattle.std.specs.Prelude.{ℕ, ◌≤◌, ◌<◌, ◌^◌, ◌≡◌, true, false, List, [], ◌∷◌, length}
 use Rattle.edition.specs.declared.Edition.{Edition}
 use Rattle.edition.specs.Edition.{max_variables, max_lines, max_name_bytes}
-use Rattle.refusal.specs.Result.{accepted}
+use Rattle.refusal.specs.Result.{Ok}
 use Rattle.arithmetic.specs.Rules.{widths_hold}
 use Rattle.arithmetic.specs.Evaluable.{IsWidth}
 use Rattle.text.specs.Spelling.{is_name}
@@ -57,4 +57,4 @@ pub record SoundFile (f : File) : Type 0 where
 
 -- "well formed and well typed within the limits"
 abbrev pub AcceptedIsSound : Type 0
-AcceptedIsSound = (bytes : List ℕ) (f : File) → read_file bytes ≡ accepted f → SoundFile f
+AcceptedIsSound = (bytes : List ℕ) (f : File) → read_file bytes ≡ Ok f → SoundFile f

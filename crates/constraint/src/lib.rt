@@ -4,7 +4,6 @@
 use arithmetic::{Operator, Word};
 
 pub mod claims;
-pub mod refusals;
 
 // Operands and lines as the definitions see them; in code they stand in the tables of `store`.
 #[derive(Clone, Copy)]

@@ -4,7 +4,8 @@
 // Before each file stands its length: eight hexadecimal digits and a line end.
 #![tactic(auto)]
 
-use reader::{Counts, Inspected};
+use reader::Counts;
+use refusal::Refusal;
 use std::io::{self, Read, Write};
 
 // The bytes of a length, with its line end.
@@ -18,21 +19,21 @@ fn print_counts<W: Write>(output: &mut W, counts: Counts) -> io::Result<()> {
     reporting::print_count(output, b" lines ", counts.lines)
 }
 
-fn print_inspected<W: Write>(output: &mut W, reply: Inspected) -> io::Result<()> {
+fn print_inspected<W: Write>(output: &mut W, reply: Result<Counts, Refusal>) -> io::Result<()> {
     match reply {
-        Inspected::Sound(counts) => print_counts(output, counts)?,
-        Inspected::Refused(refusal) => reporting::print_refusal(output, refusal)?,
+        Ok(counts) => print_counts(output, counts)?,
+        Err(refusal) => reporting::print_refusal(output, refusal)?,
     }
     output.write_all(b"\n")
 }
 
-// The length of the next file; more than there is room for where no file is left.
-fn next_length<R: Read>(input: &mut R) -> io::Result<usize> {
+// The length of the next file; none where no file is left.
+fn next_length<R: Read>(input: &mut R) -> io::Result<Option<usize>> {
     let mut header = [0u8; HEADER];
     if !reporting::next_bytes(input, &mut header)? {
-        return Ok(ROOM + 1);
+        return Ok(None);
     }
-    Ok(reporting::hex(&header, 0, HEADER - 1) as usize)
+    Ok(Some(reporting::hex(&header, 0, HEADER - 1) as usize))
 }
 
 // Fills `file` from the input and answers it; false where the input is too short.
@@ -46,7 +47,9 @@ fn run_file<R: Read, W: Write>(input: &mut R, output: &mut W, file: &mut [u8]) -
 
 // Answers the next file; false where none is left, or it is longer than the room for it.
 fn run_case<R: Read, W: Write>(input: &mut R, output: &mut W) -> io::Result<bool> {
-    let length = next_length(input)?;
+    let Some(length) = next_length(input)? else {
+        return Ok(false);
+    };
     if length > ROOM {
         return Ok(false);
     }

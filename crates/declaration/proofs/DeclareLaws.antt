@@ -10,10 +10,10 @@ use Rattle.edition.specs.declared.Edition.{Edition}
 use Rattle.edition.specs.Edition.{max_file_bytes, max_variables, max_name_bytes, max_width}
 use Rattle.refusal.specs.declared.Refusal.{Refusal}
 use Rattle.refusal.specs.declared.Subject.TheVariants.{Constraint}
-use Rattle.refusal.specs.Numbers.{misplaced_line, token_count}
-use Rattle.refusal.specs.Result.{Result, accepted, refused, refusal, ◌>>=◌}
+use Rattle.refusal.specs.declared.Fault.TheVariants.{MisplacedLine, TokenCount}
+use Rattle.refusal.specs.Result.{Reply, Ok, Err, refusal, ◌>>=◌}
 use Rattle.refusal.proofs.ResultLaws.{never}
-use Rattle.text.specs.declared.TypeRead.{TypeRead}
+use Rattle.text.specs.Scan.{TypeRead}
 use Rattle.text.specs.Lines.{Token, tokens_from}
 use Rattle.text.proofs.RunLaws.{drop-take}
 use Rattle.constraint.specs.File.{Variable, File, edition_of, with_variable, with_variables}
@@ -79,35 +79,35 @@ declaring_starts file stop at table n a b c d = record {
 
 -- one declaration, by what it makes of the variables
 module _ (f : File) (xs : List Variable) (t : Token) (ts : List Token) where
-  declare_one : (ys : List Variable) → accepted ys ≡ declared_behind (edition_of f) xs t → declare_all (with_variables f xs) (t ∷ ts) ≡ declare_all (with_variables f ys) ts
+  declare_one : (ys : List Variable) → Ok ys ≡ declared_behind (edition_of f) xs t → declare_all (with_variables f xs) (t ∷ ts) ≡ declare_all (with_variables f ys) ts
   unfolding declare_all
   declare_one ys = go (declare (edition_of f) xs t)
     where
-      go : (d : Result Variable) → accepted ys ≡ (d >>= λ x. accepted (xs ++ (x ∷ []))) → (d >>= λ x. declare_all (with_variable (with_variables f xs) x) ts) ≡ declare_all (with_variables f ys) ts
-      go (accepted x) e = let q : ys ≡ xs ++ (x ∷ []) = cc e in ap (λ zs. declare_all (with_variables f zs) ts) (sym q)
-      go (refused r) e = never (cc e)
+      go : (d : Reply Variable) → Ok ys ≡ (d >>= λ x. Ok (xs ++ (x ∷ []))) → (d >>= λ x. declare_all (with_variable (with_variables f xs) x) ts) ≡ declare_all (with_variables f ys) ts
+      go (Ok x) e = let q : ys ≡ xs ++ (x ∷ []) = cc e in ap (λ zs. declare_all (with_variables f zs) ts) (sym q)
+      go (Err r) e = never (cc e)
 
-  declare_none : (r : Refusal) → refused r ≡ declared_behind (edition_of f) xs t → declare_all (with_variables f xs) (t ∷ ts) ≡ refused r
+  declare_none : (r : Refusal) → Err r ≡ declared_behind (edition_of f) xs t → declare_all (with_variables f xs) (t ∷ ts) ≡ Err r
   unfolding declare_all
   declare_none r = go (declare (edition_of f) xs t)
     where
-      go : (d : Result Variable) → refused r ≡ (d >>= λ x. accepted (xs ++ (x ∷ []))) → (d >>= λ x. declare_all (with_variable (with_variables f xs) x) ts) ≡ refused r
-      go (accepted x) e = never (cc e)
-      go (refused q) e = let z : r ≡ q = cc e in ap refused (sym z)
+      go : (d : Reply Variable) → Err r ≡ (d >>= λ x. Ok (xs ++ (x ∷ []))) → (d >>= λ x. declare_all (with_variable (with_variables f xs) x) ts) ≡ Err r
+      go (Ok x) e = never (cc e)
+      go (Err q) e = let z : r ≡ q = cc e in ap Err (sym z)
 
 module _ {file : List ℕ} {stop at : ℕ} {table₀ : List ℕ} {n : ℕ} {table : List ℕ} {k i : ℕ} (inv : Declaring file stop at table₀ n table k i) where
   -- no token is left
-  pub declaring_done : tokens_from true i (drop i (take stop file)) ≡ [] → (f : File) → f.variables ≡ variables_in file table₀ n → accepted (with_variables f (variables_in file table k)) ≡ declare_all f (tokens_from true at (drop at (take stop file)))
+  pub declaring_done : tokens_from true i (drop i (take stop file)) ≡ [] → (f : File) → f.variables ≡ variables_in file table₀ n → Ok (with_variables f (variables_in file table k)) ≡ declare_all f (tokens_from true at (drop at (take stop file)))
   unfolding declare_all
   declaring_done e f v = rw e at (inv.rest f v)
 
   -- the next declaration is refused, or put into the table
   module _ (t : Token) (ts : List Token) (e : tokens_from true i (drop i (take stop file)) ≡ t ∷ ts) where
-    pub declaring_fault : (r : Refusal) → ((d : Edition) → refused r ≡ declared_behind d (variables_in file table k) t) → (f : File) → f.variables ≡ variables_in file table₀ n → refused r ≡ declare_all f (tokens_from true at (drop at (take stop file)))
+    pub declaring_fault : (r : Refusal) → ((d : Edition) → Err r ≡ declared_behind d (variables_in file table k) t) → (f : File) → f.variables ≡ variables_in file table₀ n → Err r ≡ declare_all f (tokens_from true at (drop at (take stop file)))
     declaring_fault r d f v = sym (declare_none f (variables_in file table k) t ts r (d (edition_of f))) ∙ rw e at (inv.rest f v)
 
   pub declaring_more : (t : Token) (end : ℕ) (table₂ : List ℕ) → tokens_from true i (drop i (take stop file)) ≡ t ∷ tokens_from true end (drop end (take stop file)) → end ≤ stop → k < max_variables → length table₂ ≡ max_variables → Searchable file table₂ (k + 1)
-      → ((d : Edition) → accepted (variables_in file table₂ (k + 1)) ≡ declared_behind d (variables_in file table k) t)
+      → ((d : Edition) → Ok (variables_in file table₂ (k + 1)) ≡ declared_behind d (variables_in file table k) t)
       → Declaring file stop at table₀ n table₂ (k + 1) end
   declaring_more t end table₂ e l room whole held d = record {
     within = l;
@@ -119,12 +119,12 @@ module _ {file : List ℕ} {stop at : ℕ} {table₀ : List ℕ} {n : ℕ} {tabl
 
 -- ---- a `d` line by its tokens
 module _ (f : File) (line : List ℕ) (at next : ℕ) where
-  pub declarations_misplaced : in_header f ≡ false → refused (refusal Constraint misplaced_line at) ≡ read_declarations f (line_at line at next)
+  pub declarations_misplaced : in_header f ≡ false → Err (refusal Constraint MisplacedLine at) ≡ read_declarations f (line_at line at next)
   unfolding read_declarations
   declarations_misplaced e = rw e
 
   module _ (e : in_header f ≡ true) where
-    pub declarations_missing : at ≤ length line → tokens_from true (at + 1) (drop (at + 1) line) ≡ [] → refused (refusal Constraint token_count (length line)) ≡ read_declarations f (line_at line at next)
+    pub declarations_missing : at ≤ length line → tokens_from true (at + 1) (drop (at + 1) line) ≡ [] → Err (refusal Constraint TokenCount (length line)) ≡ read_declarations f (line_at line at next)
     unfolding read_declarations
     declarations_missing h ts = rw (e, arguments_at line at next, ts, end_at line at next h)
 

@@ -1,86 +1,75 @@
 // The `d` lines.
-ghost use Rattle.std.specs.Prelude.{◌≡◌, true, List, ℕ, ◌+◌, ◌<◌, ◌≤◌, length, take, drop};
+ghost use Rattle.std.specs.Prelude.{◌≡◌, true, List, ℕ, ◌+◌, ◌<◌, ◌≤◌, length, take, drop, IfOk};
 ghost use Rattle.edition.specs.declared.Edition.{Edition as TheEdition};
 ghost use Rattle.edition.specs.Edition.{max_file_bytes, max_variables};
+ghost use Rattle.refusal.specs.Result.{accepted_as};
 ghost use Rattle.text.specs.Lines.{tokens_from};
 ghost use Rattle.text.specs.Scan.{line_at, token_from};
-ghost use Rattle.constraint.specs.File.{File};
+ghost use Rattle.constraint.specs.File.{File, with_variables};
 ghost use Rattle.constraint.specs.Read.{declare_all, read_declarations};
 ghost use Rattle.store.specs.Names.{Searchable};
 ghost use Rattle.store.specs.Tables.{variables_in, store_of};
-ghost use Rattle.store.specs.Progress.{stored_file, advanced, added_result, InTables, AddsVariables, StepSearchable};
-ghost use Rattle.declaration.specs.Internal.{put_result, declared_behind, PutHolds, declared_result, DeclaredHolds};
+ghost use Rattle.store.specs.Progress.{stored_file, advanced, added_result, InTables, AddsVariables};
+ghost use Rattle.declaration.specs.Internal.{declared_behind, PutHolds, DeclaredHolds};
 
 use super::declaring::declare;
-use super::{Declaration, Declared, Put};
-use constraint::refusals::refusal;
 use edition::Edition;
-use refusal::Refusal;
+use refusal::{Fault, Refusal, Subject};
 use store::hashing::name_at;
 use store::names::add;
-use store::{Added, Progress};
+use store::{Part, Progress};
 use text::numbers::type_at;
 use text::scan::{is_letter, spaces};
 
-// The declaration whose token starts at `at` in the line that stops at `stop`, put behind the n variables that are held.
+// The declaration whose token starts at `at` in the line that stops at `stop`, put behind the n variables that are held: where the token stops.
 fn declare_next(
     file: &[u8],
     stop: usize,
     at: usize,
     variables: &mut [u64; Edition::VARIABLES],
     n: usize,
-) -> Put
+) -> Result<usize, Refusal>
     requires { (at < stop) × (stop ≤ length file.now) × (length file.now ≤ max_file_bytes) × (n ≤ max_variables) × (length variables.old ≡ max_variables) × Searchable file.now variables.old n }
-    ensures { ((e : TheEdition) → put_result (variables_in file.now variables.new (n + 1)) result ≡ declared_behind e (variables_in file.now variables.old n) (token_from (take stop file.now) at)) × PutHolds file.now stop at variables.new n result × (length variables.new ≡ max_variables) }
+    ensures { ((e : TheEdition) → accepted_as (λ end. variables_in file.now variables.new (n + 1)) result ≡ declared_behind e (variables_in file.now variables.old n) (token_from (take stop file.now) at)) × IfOk result (PutHolds file.now stop at variables.new n) × (length variables.new ≡ max_variables) }
 {
     let line = &file[..stop];
     if !is_letter(line[at]) {
-        return Put::NotPut(refusal(Refusal::MISSPELT, at));
+        return Err(Refusal::of(Subject::Constraint, Fault::Misspelt, at));
     }
     let name = name_at(line, at);
     let colon = name.stop;
     let hash = name.hash;
     let found = type_at(line, colon);
-    let kind = found.kind;
     let end = found.stop;
-    match declare(file, variables, n, &line[..colon], at, hash, kind) {
-        Declaration::Faulty(number) => Put::NotPut(refusal(number, at)),
-        Declaration::Fresh(width) => {
-            add(variables, n, at, colon - at, width, hash);
-            Put::UpTo(end)
-        }
-    }
+    let width = declare(file, variables, n, &line[..colon], at, hash, found.width).map_err(
+        |fault| Refusal::of(Subject::Constraint, fault, at),
+    )?;
+    add(variables, n, at, colon - at, width, hash);
+    Ok(end)
 }
 
-// The declarations of the line that stops at `stop`, from `at` on, put behind the n variables that are held.
+// The declarations of the line that stops at `stop`, from `at` on, put behind the n variables that are held: how many variables there are then.
 fn declare_all(
     file: &[u8],
     stop: usize,
     at: usize,
     variables: &mut [u64; Edition::VARIABLES],
     n: usize,
-) -> Declared
+) -> Result<usize, Refusal>
     requires { (at ≤ stop) × (stop ≤ length file.now) × (length file.now ≤ max_file_bytes) × (n ≤ max_variables) × (length variables.old ≡ max_variables) × Searchable file.now variables.old n }
-    ensures { ((f : File) → f.variables ≡ variables_in file.now variables.old n → declared_result f (variables_in file.now variables.new) result ≡ declare_all f (tokens_from true at (drop at (take stop file.now)))) × (length variables.new ≡ max_variables) × DeclaredHolds file.now variables.new result }
+    ensures { ((f : File) → f.variables ≡ variables_in file.now variables.old n → accepted_as (λ k. with_variables f (variables_in file.now variables.new k)) result ≡ declare_all f (tokens_from true at (drop at (take stop file.now)))) × (length variables.new ≡ max_variables) × IfOk result (DeclaredHolds file.now variables.new) }
 {
     let mut k = n;
     let mut i = at;
     while i < stop {
         let start = spaces(&file[..stop], i);
         if start == stop {
-            return Declared::Done(k);
+            return Ok(k);
         }
-        match declare_next(file, stop, start, variables, k) {
-            Put::NotPut(r) => {
-                return Declared::Fault(r);
-            }
-            Put::UpTo(end) => {
-                k += 1;
-                i = end;
-            }
-        }
+        i = declare_next(file, stop, start, variables, k)?;
+        k += 1;
     }
-    Declared::Done(k)
+    Ok(k)
 }
 
 // The `d` line that stops at `stop`, from `at` on.
@@ -90,21 +79,18 @@ pub fn declaration_line(
     at: usize,
     variables: &mut [u64; Edition::VARIABLES],
     p: Progress,
-) -> Added
+) -> Result<Part, Refusal>
     requires { (at < stop) × (stop ≤ length file.now) × (length file.now ≤ max_file_bytes) × InTables p × (length variables.old ≡ max_variables) × Searchable file.now variables.old p.variables }
-    ensures { ((heads bodies : List ℕ) (next : ℕ) → added_result file.now (store_of variables.new heads bodies) p result ≡ read_declarations (stored_file file.now (store_of variables.old heads bodies) p) (line_at (take stop file.now) at next)) × (length variables.new ≡ max_variables) × AddsVariables p result × StepSearchable file.now variables.new (advanced p result) }
+    ensures { ((heads bodies : List ℕ) (next : ℕ) → added_result file.now (store_of variables.new heads bodies) p result ≡ read_declarations (stored_file file.now (store_of variables.old heads bodies) p) (line_at (take stop file.now) at next)) × (length variables.new ≡ max_variables) × IfOk result (AddsVariables p) × IfOk (advanced p result) (λ q. Searchable file.now variables.new q.variables) }
 {
-    let n = p.variables;
     let m = p.lines;
     if m != 0 {
-        return Added::Fault(refusal(Refusal::MISPLACED_LINE, at));
+        return Err(Refusal::of(Subject::Constraint, Fault::MisplacedLine, at));
     }
     let next = at + 1;
     if spaces(&file[..stop], next) == stop {
-        return Added::Fault(refusal(Refusal::TOKEN_COUNT, stop));
+        return Err(Refusal::of(Subject::Constraint, Fault::TokenCount, stop));
     }
-    match declare_all(file, stop, next, variables, n) {
-        Declared::Done(k) => Added::VariablesPart(k),
-        Declared::Fault(r) => Added::Fault(r),
-    }
+    let n = declare_all(file, stop, next, variables, p.variables)?;
+    Ok(Part::Variables(n))
 }

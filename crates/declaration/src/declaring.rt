@@ -7,15 +7,13 @@ ghost use Rattle.store.specs.Names.{Searchable};
 ghost use Rattle.store.specs.Tables.{variables_in};
 ghost use Rattle.declaration.specs.Internal.{new_name, declaration_of};
 
-use super::Declaration;
 use edition::Edition;
-use refusal::Refusal;
+use refusal::Fault;
 use spelling::is_reserved;
-use store::Found;
 use store::names::find;
-use text::TypeRead;
+use text::TypeError;
 
-// A name from `at` to the end of the text, with that hash, that is new: not reserved, not declared, and there is room for it.
+// The width of a name from `at` to the end of the text, with that hash, if it is new: not reserved, not declared, and there is room for it.
 fn new_name(
     file: &[u8],
     variables: &[u64; Edition::VARIABLES],
@@ -24,26 +22,26 @@ fn new_name(
     at: usize,
     hash: u32,
     width: u64,
-) -> Declaration
+) -> Result<u64, Fault>
     requires { (at ≤ length text.now) × (n ≤ max_variables) × Searchable file.now variables.now n × (hash ≡ hash_of (drop at text.now)) }
     ensures { (e : TheEdition) → result ≡ new_name e (variables_in file.now variables.now n) (drop at text.now) width }
 {
     if Edition::NAME_BYTES < text.len() - at {
-        return Declaration::Faulty(Refusal::OVER_LIMIT);
+        return Err(Fault::OverLimit);
     }
     if Edition::VARIABLES <= n {
-        return Declaration::Faulty(Refusal::OVER_LIMIT);
+        return Err(Fault::OverLimit);
     }
     if is_reserved(text, at) {
-        return Declaration::Faulty(Refusal::NAME_TAKEN);
+        return Err(Fault::NameTaken);
     }
     match find(file, variables, n, text, at, hash) {
-        Found::At(_) => Declaration::Faulty(Refusal::NAME_TAKEN),
-        Found::Nowhere => Declaration::Fresh(width),
+        Some(_) => Err(Fault::NameTaken),
+        None => Ok(width),
     }
 }
 
-// The declaration of a name, from `at` to the end of the text, with that hash, and of the type behind it.
+// The width in the declaration of a name, from `at` to the end of the text, with that hash, and of the type behind it.
 pub(crate) fn declare(
     file: &[u8],
     variables: &[u64; Edition::VARIABLES],
@@ -51,14 +49,14 @@ pub(crate) fn declare(
     text: &[u8],
     at: usize,
     hash: u32,
-    kind: TypeRead,
-) -> Declaration
+    width: Result<u64, TypeError>,
+) -> Result<u64, Fault>
     requires { (at ≤ length text.now) × (n ≤ max_variables) × Searchable file.now variables.now n × (hash ≡ hash_of (drop at text.now)) }
-    ensures { (e : TheEdition) → result ≡ declaration_of kind (new_name e (variables_in file.now variables.now n) (drop at text.now)) }
+    ensures { (e : TheEdition) → result ≡ declaration_of width (new_name e (variables_in file.now variables.now n) (drop at text.now)) }
 {
-    match kind {
-        TypeRead::NoType => Declaration::Faulty(Refusal::MISSPELT),
-        TypeRead::NoWidth => Declaration::Faulty(Refusal::NOT_A_WIDTH),
-        TypeRead::Width(k) => new_name(file, variables, n, text, at, hash, k),
+    match width {
+        Err(TypeError::NoType) => Err(Fault::Misspelt),
+        Err(TypeError::NoWidth) => Err(Fault::NotAWidth),
+        Ok(k) => new_name(file, variables, n, text, at, hash, k),
     }
 }

@@ -1,6 +1,6 @@
 -- The editions of the format, and "Sizes of version 1.0 as we keep it".
 use Rattle.std.specs.Prelude.{ℕ, Bool, cond, ◌&&◌, eqb, leb}
-use Rattle.std.proofs.Math.Option.{Option, none, some}
+use Rattle.std.specs.Prelude.{Option, None, Some}
 use Rattle.edition.specs.declared.Edition.{Edition}
 use Rattle.edition.specs.declared.Limits.{Limits}
 
@@ -10,7 +10,7 @@ edition10 = record { major = 1; minor = 0 }
 
 -- the edition of a version's two numbers
 unfoldable pub edition_numbered : ℕ → ℕ → Option Edition
-edition_numbered major minor = cond (eqb major edition10.major && eqb minor edition10.minor) (some edition10) none
+edition_numbered major minor = cond (eqb major edition10.major && eqb minor edition10.minor) (Some edition10) None
 
 -- the limits of an edition: bytes of either file, variables, lines of kind `c` or `p`, bytes of a name, bits of a value
 abbrev pub limits : Edition → Limits

@@ -5,17 +5,16 @@ use mathlib.Core.List.{List}
 use lib.Dec.{leb}
 use lib.ListN.{length, drop}
 use lib.Seq.{take-append_seam}
-use Rattle.refusal.specs.Result.{Result, accepted, refused}
+use Rattle.refusal.specs.Result.{Reply, Ok, Err}
 use Rattle.refusal.proofs.ResultLaws.{never, Yields, yields_accepted, yields_bind, yields_ensure, yields_itself}
 use Rattle.constraint.specs.File.{File}
 use Rattle.constraint.specs.Read.{read_file}
-use Rattle.index.specs.declared.IndexReply.TheVariants.{Indexed}
 use Rattle.index.specs.Index.{index_of, own_index, indexing, indexed}
 use Rattle.index.specs.Claims.{IsOwn, BuiltIsOwn}
 
 module _ (constraint starts lists : List ℕ) where
   -- what is indexed is the file that is read
-  pub indexing_yields : Yields (λ f. read_file constraint ≡ accepted f) (indexing constraint starts lists)
+  pub indexing_yields : Yields (λ f. read_file constraint ≡ Ok f) (indexing constraint starts lists)
   unfolding indexing
   indexing_yields =
       yields_bind (yields_itself (read_file constraint)) λ f a.
@@ -23,15 +22,15 @@ module _ (constraint starts lists : List ℕ) where
       yields_ensure (leb (length (own_index f).lists) (length lists)) _ λ w.
       yields_accepted a
 
-  built_by : (f : File) (n : ℕ) → read_file constraint ≡ accepted f → (q : Result File) → indexing constraint starts lists ≡ q → (indexed starts lists q).reply ≡ Indexed n → IsOwn f (index_of (indexed starts lists q).starts (indexed starts lists q).lists)
-  built_by f n read (accepted g) e r =
-      let z : accepted f ≡ accepted g = sym read ∙ indexing_yields.holds g e in
+  built_by : (f : File) (n : ℕ) → read_file constraint ≡ Ok f → (q : Reply File) → indexing constraint starts lists ≡ q → (indexed starts lists q).reply ≡ Ok n → IsOwn f (index_of (indexed starts lists q).starts (indexed starts lists q).lists)
+  built_by f n read (Ok g) e r =
+      let z : Ok f ≡ Ok g = sym read ∙ indexing_yields.holds g e in
       let y : f ≡ g = cc z in
       rw y (record {
         starts = sym (take-append_seam (own_index g).starts (drop (length (own_index g).starts) starts));
         lists = sym (take-append_seam (own_index g).lists (drop (length (own_index g).lists) lists));
       })
-  built_by f n read (refused x) e r = never (cc r)
+  built_by f n read (Err x) e r = never (cc r)
 
 pub built_is_own : BuiltIsOwn
 built_is_own constraint starts lists f n read r = built_by constraint starts lists f n read (indexing constraint starts lists) refl r

@@ -3,7 +3,7 @@ use Prim.Native.Nat.{ℕ, zero, suc, ◌+◌, ◌≤◌, ◌<◌}
 use mathlib.Core.Path.{◌≡◌, refl, ap}
 use mathlib.Core.Bool.{Bool, true, false, ◌&&◌}
 use mathlib.Core.List.{List, [], ◌∷◌}
-use mathlib.Core.Option.{some}
+use Rattle.std.specs.Prelude.{Some}
 use native.Mathlib.Decide.{ℕ_discrete}
 use native.Mathlib.Omega.{arith}
 use lib.Dec.{ltb, leb}
@@ -11,7 +11,7 @@ use lib.ListN.{length, get_or, take}
 use lib.Seq.{length-take-le, get_or-take}
 use borrow.Author.Tests.{ltb-true, leb-true, eq-eqb, ne_eqb}
 use Rattle.refusal.specs.Lists.{every, how_many, is_one_of}
-use Rattle.refusal.specs.Result.{accepted}
+use Rattle.refusal.specs.Result.{Ok}
 use Rattle.refusal.proofs.ResultLaws.{ensure_accepted, test_accepted}
 use Rattle.refusal.proofs.BoolLaws.{and_true}
 use Rattle.refusal.proofs.ListLaws.{every_get}
@@ -114,7 +114,7 @@ module _ (n : ℕ) (x : Index) (e : starts_fit n x ≡ true) where
   room i h = let z = every_get within 0 used i tests.2 (omega (arith, many)) in leb-true (get_or x.starts i 0) (length x.lists) (rw (here i h) at z)
 
 -- ---- an index that fits a file
-module _ (f : File) (x : Index) (i : ℕ) (e : index_fits f (some x) ≡ accepted tt) where
+module _ (f : File) (x : Index) (i : ℕ) (e : index_fits f (Some x) ≡ Ok tt) where
   abbrev n : ℕ
   n = length f.variables
 
@@ -145,5 +145,5 @@ module _ (f : File) (x : Index) (i : ℕ) (e : index_fits f (some x) ≡ accepte
         let r = every_get (λ k. list_fits m (list_in x k)) 0 (tabulate g n) i both.1 (omega (arith, length-tabulate g n)) in
         rw (get_d_tabulate g n i 0 h) at r
 
-    pub named_listed : selected (concerned f (some x) i) ≡ length (list_in x i)
+    pub named_listed : selected (concerned f (Some x) i) ≡ length (list_in x i)
     named_listed = count_numbered 1 (suc m) f.lines (list_in x i) (omega arith) (list_rises m (list_in x i) listed_fits)

@@ -8,14 +8,13 @@ use lib.Seq.{ext_get_or, get_or-take, length-take-le}
 use borrow.Author.Tests.{le-leb, lt-leb}
 use Rattle.edition.specs.Edition.{max_variables, max_lines}
 use Rattle.refusal.specs.declared.Subject.TheVariants.{Starts, Lists}
+use Rattle.refusal.specs.declared.Refusal.{Refusal}
 use Rattle.refusal.specs.Lists.{how_many}
-use Rattle.refusal.specs.Numbers.{too_short}
-use Rattle.refusal.specs.Result.{refusal}
+use Rattle.refusal.specs.declared.Fault.TheVariants.{TooShort}
+use Rattle.refusal.specs.Result.{Reply, Ok, Err, refusal}
 use Rattle.constraint.specs.File.{File}
 use Rattle.store.specs.Tables.{tabulate, lines_in}
 use Rattle.store.proofs.TableLaws.{length-tabulate, get_d_tabulate}
-use Rattle.index.specs.declared.IndexReply.{IndexReply}
-use Rattle.index.specs.declared.IndexReply.TheVariants.{Indexed, Refused}
 use Rattle.index.specs.Select.{names, naming}
 use Rattle.index.specs.Index.{own_list, own_lists, own_start, own_index, IndexOutcome}
 use Rattle.index.specs.Claims.{max_listed}
@@ -50,11 +49,11 @@ module _ (f : File) (heads bodies : List ℕ) (n m : ℕ) (v : length f.variable
   many_lists = rw (v, lists_held n)
 
   module _ (starts lists : List ℕ) where
-    pub starts_short : (r : IndexReply) → r ≡ Refused (refusal Starts too_short 0) → length starts ≤ n → ◌≡◌ {A = IndexOutcome} (record { reply = r; starts = starts; lists = lists }) (index_for f starts lists)
+    pub starts_short : (r : Refusal) → r ≡ refusal Starts TooShort 0 → length starts ≤ n → ◌≡◌ {A = IndexOutcome} (record { reply = Err r; starts = starts; lists = lists }) (index_for f starts lists)
     starts_short r e h = rw (e, lt-leb (length (own_index f).starts) (length starts) (omega (arith, many_starts)))
 
     module _ (h : n < length starts) where
-      pub lists_short : (r : IndexReply) → r ≡ Refused (refusal Lists too_short 0) → length lists < own_start (held_file heads bodies m) n → ◌≡◌ {A = IndexOutcome} (record { reply = r; starts = starts; lists = lists }) (index_for f starts lists)
+      pub lists_short : (r : Refusal) → r ≡ refusal Lists TooShort 0 → length lists < own_start (held_file heads bodies m) n → ◌≡◌ {A = IndexOutcome} (record { reply = Err r; starts = starts; lists = lists }) (index_for f starts lists)
       lists_short r e k =
           rw (e, le-leb (length (own_index f).starts) (length starts) (omega (arith, many_starts)), lt-leb (length (own_index f).lists) (length lists) (omega (arith, many_lists)))
 
@@ -76,7 +75,7 @@ module _ (f : File) (heads bodies : List ℕ) (n m : ℕ) (v : length f.variable
             → end ≡ own_start (held_file heads bodies m) n
             → starts₂ ≡ (take n next ++ (end ∷ [])) ++ drop (suc n) starts
             → lists₂ ≡ own_lists (held_file heads bodies m) n ++ drop (own_start (held_file heads bodies m) n) lists
-            → ◌≡◌ {A = IndexOutcome} (record { reply = Indexed end; starts = starts₂; lists = lists₂ }) (index_for f starts lists)
+            → ◌≡◌ {A = IndexOutcome} (record { reply = Ok end; starts = starts₂; lists = lists₂ }) (index_for f starts lists)
         index_built end starts₂ lists₂ a b c =
             rw (
               le-leb (length (own_index f).starts) (length starts) (omega (arith, many_starts)),

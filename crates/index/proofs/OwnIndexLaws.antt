@@ -3,7 +3,7 @@ use Prim.Native.Nat.{ℕ, zero, suc, ◌+◌, ◌≤◌, ◌<◌}
 use mathlib.Core.Path.{◌≡◌, refl, sym, ap, ◌∙◌}
 use mathlib.Core.Bool.{Bool, true, false, ◌&&◌}
 use mathlib.Core.List.{List, [], ◌∷◌, ◌++◌, append_assoc, append-nil}
-use mathlib.Core.Option.{Option, none, some}
+use Rattle.std.specs.Prelude.{Option, None, Some}
 use native.Mathlib.Omega.{arith}
 use native.Mathlib.Decide.{dec_lt}
 use lib.Dec.{ltb, leb}
@@ -11,7 +11,7 @@ use lib.ListN.{length, get_or, take, length-append, length-take, length-map}
 use lib.Seq.{get_or-take, take-take, take-append_seam, drop-append_seam}
 use borrow.Author.Tests.{lt-ltb, le-leb}
 use Rattle.refusal.specs.Lists.{every}
-use Rattle.refusal.specs.Result.{accepted}
+use Rattle.refusal.specs.Result.{Ok}
 use Rattle.refusal.proofs.ListLaws.{every_at}
 use Rattle.constraint.specs.File.{File}
 use Rattle.store.specs.Tables.{tabulate}
@@ -91,7 +91,7 @@ module _ (f : File) (x : Index) (own : IsOwn f x) where
       let front : take k x.lists ≡ own_lists f (suc i) = sym (take-take k (length all) x.lists (lists_within f n (suc i) h)) ∙ ap (take k) (sym own.lists) ∙ lists_taken f n (suc i) h in
       rw (start_own i (omega arith), start_own (suc i) h, front) (drop-append_seam (own_lists f i) (own_list f i))
 
-  pub concerned_own : (i : ℕ) → i < length f.variables → concerned f (some x) i ≡ naming f i
+  pub concerned_own : (i : ℕ) → i < length f.variables → concerned f (Some x) i ≡ naming f i
   concerned_own i h = rw (listed_own i h) (own_list_selects f i)
 
   starts_fit_lem : starts_fit (length f.variables) x ≡ true
@@ -115,14 +115,14 @@ module _ (f : File) (x : Index) (own : IsOwn f x) where
       let long = length-tabulate g n in
       every_at (λ i. list_fits (length f.lines) (list_in x i)) 0 (tabulate g n) (λ i h. rw (get_d_tabulate g n i 0 (omega arith), listed_own i (omega arith)) (own_list_fits f i))
 
-  pub index_fits_own : index_fits f (some x) ≡ accepted tt
+  pub index_fits_own : index_fits f (Some x) ≡ Ok tt
   index_fits_own = rw (starts_fit_lem, lists_fit_lem)
 
 -- ---- no index, or the file's own
-pub index_fits_lem : (f : File) (x : Option Index) → OwnOrNone f x → index_fits f x ≡ accepted tt
-index_fits_lem f none own = refl
-index_fits_lem f (some x) own = index_fits_own f x own
+pub index_fits_lem : (f : File) (x : Option Index) → OwnOrNone f x → index_fits f x ≡ Ok tt
+index_fits_lem f None own = refl
+index_fits_lem f (Some x) own = index_fits_own f x own
 
 pub concerned_naming : (f : File) (x : Option Index) → OwnOrNone f x → (i : ℕ) → i < length f.variables → concerned f x i ≡ naming f i
-concerned_naming f none own i h = refl
-concerned_naming f (some x) own i h = concerned_own f x own i h
+concerned_naming f None own i h = refl
+concerned_naming f (Some x) own i h = concerned_own f x own i h

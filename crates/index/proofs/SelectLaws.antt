@@ -3,7 +3,7 @@ use Prim.Native.Nat.{ℕ, zero, suc, ◌+◌, ◌<◌}
 use mathlib.Core.Path.{◌≡◌, refl, sym, ap, ap₂, ◌∙◌}
 use mathlib.Core.Bool.{Bool, true, false}
 use mathlib.Core.List.{List, [], ◌∷◌, ◌++◌}
-use mathlib.Core.Option.{Option, none, some}
+use Rattle.std.specs.Prelude.{Option, None, Some}
 use native.Mathlib.Nat.{add-zero}
 use native.Mathlib.Decide.{ℕ_discrete}
 use native.Mathlib.Omega.{arith}
@@ -27,8 +27,8 @@ numbered_length ns n (l ∷ ls) = ap suc (numbered_length ns (suc n) ls)
 
 pub concerned_length : (f : File) (x : Option Index) (i : ℕ) → length (concerned f x i) ≡ length f.lines
 unfolding naming
-concerned_length f none i = length-map f.lines (names i)
-concerned_length f (some x) i = numbered_length (list_in x i) 1 f.lines
+concerned_length f None i = length-map f.lines (names i)
+concerned_length f (Some x) i = numbered_length (list_in x i) 1 f.lines
 
 -- ---- place by place
 pub numbered_at : (ns : List ℕ) (n : ℕ) (ls : List Line) (j : ℕ) → j < length ls → get_or (numbered ns n ls) j false ≡ is_one_of (n + j) ns

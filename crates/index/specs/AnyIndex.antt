@@ -1,10 +1,9 @@
 -- Any index: the lines that it lists, and whether it fits a file.
-use Rattle.std.specs.Prelude.{ℕ, suc, Bool, true, ◌&&◌, List, [], ◌∷◌, ltb, leb, length, get_or, take, drop}
-use Rattle.std.proofs.Math.Option.{Option, none, some}
+use Rattle.std.specs.Prelude.{ℕ, suc, Bool, true, ◌&&◌, List, [], ◌∷◌, ltb, leb, length, get_or, take, drop, Option, None, Some}
 use Rattle.refusal.specs.declared.Subject.TheVariants.{Starts, Lists}
-use Rattle.refusal.specs.Numbers.{wrong_index}
+use Rattle.refusal.specs.declared.Fault.TheVariants.{WrongIndex}
 use Rattle.refusal.specs.Lists.{every, is_one_of}
-use Rattle.refusal.specs.Result.{Result, accepted, refusal, ensure, ◌>>◌}
+use Rattle.refusal.specs.Result.{Reply, Ok, refusal, ensure, ◌>>◌}
 use Rattle.constraint.specs.declared.Line.{Line}
 use Rattle.constraint.specs.File.{File}
 use Rattle.store.specs.Tables.{tabulate}
@@ -22,8 +21,8 @@ numbered ns n (l ∷ ls) = is_one_of n ns ∷ numbered ns (suc n) ls
 
 -- the lines that a change of the variable i concerns: without an index those that name it, through one "just the lines listed"
 abbrev pub concerned : File → Option Index → ℕ → List Bool
-concerned f none i = naming f i
-concerned f (some x) i = numbered (list_in x i) 1 f.lines
+concerned f None i = naming f i
+concerned f (Some x) i = numbered (list_in x i) 1 f.lines
 
 -- 25
 
@@ -50,10 +49,10 @@ unfoldable pub lists_fit : ℕ → ℕ → Index → Bool
 lists_fit n m x = every (λ i. list_fits m (list_in x i)) (tabulate (λ i. i) n)
 
 -- "25 at position 0", of n variables and m lines: of the starts, then of the lists
-abbrev pub index_fits_for : ℕ → ℕ → Index → Result (Unit {0})
-index_fits_for n m x = ensure (starts_fit n x) (refusal Starts wrong_index 0) >> ensure (lists_fit n m x) (refusal Lists wrong_index 0)
+abbrev pub index_fits_for : ℕ → ℕ → Index → Reply (Unit {0})
+index_fits_for n m x = ensure (starts_fit n x) (refusal Starts WrongIndex 0) >> ensure (lists_fit n m x) (refusal Lists WrongIndex 0)
 
 -- without an index there is nothing to test
-abbrev pub index_fits : File → Option Index → Result (Unit {0})
-index_fits f none = accepted tt
-index_fits f (some x) = index_fits_for (length f.variables) (length f.lines) x
+abbrev pub index_fits : File → Option Index → Reply (Unit {0})
+index_fits f None = Ok tt
+index_fits f (Some x) = index_fits_for (length f.variables) (length f.lines) x

@@ -1,10 +1,8 @@
 -- What is claimed of a file's own index.
-use Rattle.std.specs.Prelude.{ℕ, ◌≤◌, ◌≡◌, List, length, take}
-use Rattle.std.proofs.Math.Option.{Option, none, some}
-use Rattle.refusal.specs.Result.{accepted}
+use Rattle.std.specs.Prelude.{ℕ, ◌≤◌, ◌≡◌, List, length, take, Option, None, Some}
+use Rattle.refusal.specs.Result.{Ok}
 use Rattle.constraint.specs.File.{File}
 use Rattle.constraint.specs.Read.{read_file}
-use Rattle.index.specs.declared.IndexReply.TheVariants.{Indexed}
 use Rattle.index.specs.Index.{Index, index_of, own_index, index_outcome}
 
 -- entries stand in front of a table
@@ -18,15 +16,15 @@ pub record IsOwn (f : File) (x : Index) : Type 0 where
 
 -- "no index or the file's own"
 abbrev pub OwnOrNone : File → Option Index → Type 0
-OwnOrNone f none = Unit {0}
-OwnOrNone f (some x) = IsOwn f x
+OwnOrNone f None = Unit {0}
+OwnOrNone f (Some x) = IsOwn f x
 
 -- an index that is built is the file's own
 abbrev pub BuiltIsOwn : Type 0
 BuiltIsOwn =
     (constraint starts lists : List ℕ) (f : File) (n : ℕ)
-    → read_file constraint ≡ accepted f
-    → (index_outcome constraint starts lists).reply ≡ Indexed n
+    → read_file constraint ≡ Ok f
+    → (index_outcome constraint starts lists).reply ≡ Ok n
     → IsOwn f (index_of (index_outcome constraint starts lists).starts (index_outcome constraint starts lists).lists)
 
 -- "4,096 in all at most"
@@ -34,4 +32,4 @@ abbrev pub max_listed : ℕ
 max_listed = 4096
 
 abbrev pub ListsAtMost : Type 0
-ListsAtMost = (constraint : List ℕ) (f : File) → read_file constraint ≡ accepted f → length (own_index f).lists ≤ max_listed
+ListsAtMost = (constraint : List ℕ) (f : File) → read_file constraint ≡ Ok f → length (own_index f).lists ≤ max_listed

@@ -1,13 +1,12 @@
 -- The index of a file: which lines name a variable; and the call that builds it.
 use Rattle.std.specs.Prelude.{ℕ, zero, suc, Bool, cond, List, [], ◌∷◌, ◌++◌, leb, length, drop}
 use Rattle.refusal.specs.declared.Subject.TheVariants.{Starts, Lists}
-use Rattle.refusal.specs.Numbers.{too_short}
-use Rattle.refusal.specs.Result.{Result, accepted, refused, refusal, ensure, ◌>>=◌, ◌>>◌}
+use Rattle.refusal.specs.declared.Fault.TheVariants.{TooShort}
+use Rattle.refusal.specs.Result.{Reply, Ok, Err, refusal, ensure, ◌>>=◌, ◌>>◌}
 use Rattle.constraint.specs.File.{File}
 use Rattle.constraint.specs.Read.{read_file}
 use Rattle.store.specs.Tables.{tabulate}
-use Rattle.index.specs.declared.IndexReply.{IndexReply}
-use Rattle.index.specs.declared.IndexReply.TheVariants.{Indexed, Refused}
+use Rattle.index.specs.declared.LentIndex.{LentIndex}
 use Rattle.index.specs.Select.{naming}
 
 -- "two lent tables of 32-bit numbers: where each variable's list starts, from 0, with the end of the last; and the lists"
@@ -17,6 +16,10 @@ pub record Index : Type 0 where
 
 abbrev pub index_of : List ℕ → List ℕ → Index
 index_of starts lists = record { starts = starts; lists = lists }
+
+-- the index that is lent
+abbrev pub lent_index : LentIndex → Index
+lent_index lent = index_of lent.starts.now lent.lists.now
 
 -- THE FILE'S OWN
 
@@ -45,32 +48,32 @@ own_index f = record { starts = tabulate (own_start f) (suc (length f.variables)
 -- BUILDING IT
 
 -- of a file that is read: "21 for its room when building", of the starts, then of the lists
-abbrev pub indexing_for : File → List ℕ → List ℕ → Result File
+abbrev pub indexing_for : File → List ℕ → List ℕ → Reply File
 indexing_for f starts lists = do
-  ensure (leb (length (own_index f).starts) (length starts)) (refusal Starts too_short 0)
-  ensure (leb (length (own_index f).lists) (length lists)) (refusal Lists too_short 0)
-  accepted f
+  ensure (leb (length (own_index f).starts) (length starts)) (refusal Starts TooShort 0)
+  ensure (leb (length (own_index f).lists) (length lists)) (refusal Lists TooShort 0)
+  Ok f
 
 -- the constraint file's refusals come first
-unfoldable pub indexing : List ℕ → List ℕ → List ℕ → Result File
+unfoldable pub indexing : List ℕ → List ℕ → List ℕ → Reply File
 indexing constraint starts lists = do
   f ← read_file constraint
   indexing_for f starts lists
 
 -- the reply and the two tables at exit
 pub record IndexOutcome : Type 0 where
-  pub reply : IndexReply
+  pub reply : Reply ℕ
   pub starts : List ℕ
   pub lists : List ℕ
 
 -- accepted, the index stands in front of what was behind it, and the reply says how many lines are listed; refused, nothing changes
-abbrev pub indexed : List ℕ → List ℕ → Result File → IndexOutcome
-indexed starts lists (accepted f) = record {
-  reply = Indexed (length (own_index f).lists);
+abbrev pub indexed : List ℕ → List ℕ → Reply File → IndexOutcome
+indexed starts lists (Ok f) = record {
+  reply = Ok (length (own_index f).lists);
   starts = (own_index f).starts ++ drop (length (own_index f).starts) starts;
   lists = (own_index f).lists ++ drop (length (own_index f).lists) lists;
 }
-indexed starts lists (refused r) = record { reply = Refused r; starts = starts; lists = lists }
+indexed starts lists (Err r) = record { reply = Err r; starts = starts; lists = lists }
 
 -- INDEX: the contract of the call
 abbrev pub index_outcome : List ℕ → List ℕ → List ℕ → IndexOutcome

@@ -1,28 +1,16 @@
 -- What the results of this crate's functions mean, in terms of the definitions.
-use Rattle.std.specs.Prelude.{ℕ, zero, suc, ◌+◌, ◌≤◌, ◌<◌, ◌≡◌, Bool, cond, List, [], eqb, length, get_or}
-use Rattle.std.proofs.Math.Option.{none}
+use Rattle.std.specs.Prelude.{ℕ, zero, suc, ◌+◌, ◌≤◌, ◌<◌, ◌≡◌, Bool, cond, List, [], eqb, length, get_or, None}
 use Rattle.edition.specs.Edition.{max_variables}
-use Rattle.refusal.specs.declared.Subject.TheVariants.{Starts, Lists}
-use Rattle.refusal.specs.Numbers.{wrong_index}
-use Rattle.refusal.specs.Result.{Result, accepted, refused, refusal}
 use Rattle.constraint.specs.declared.Line.{Line}
 use Rattle.constraint.specs.File.{Variable, File}
 use Rattle.store.specs.Tables.{lines_in}
-use Rattle.index.specs.declared.IndexFault.{IndexFault}
-use Rattle.index.specs.declared.IndexFault.TheVariants.{NoFault, OfStarts, OfLists}
 use Rattle.index.specs.declared.LineVariables.{LineVariables}
 use Rattle.index.specs.Index.{indexing_for, IndexOutcome, indexed}
 use Rattle.index.specs.Claims.{max_listed}
 
--- no fault of an index, or the refusal of what is at fault
-abbrev pub fault_result : IndexFault → Result (Unit {0})
-fault_result NoFault = accepted tt
-fault_result OfStarts = refused (refusal Starts wrong_index 0)
-fault_result OfLists = refused (refusal Lists wrong_index 0)
-
 -- a file of these variables and lines, without version and expectation: indexes and changes need neither
 abbrev pub file_of : List Variable → List Line → File
-file_of xs ls = record { version = none; expectation = none; variables = xs; lines = ls }
+file_of xs ls = record { version = None; expectation = None; variables = xs; lines = ls }
 
 -- 1 where a test passes
 abbrev pub one : Bool → ℕ

@@ -2,20 +2,16 @@
 ghost use Rattle.std.specs.Prelude.{◌≡◌, [], ◌∷◌, ◌++◌, ℕ, suc, ◌+◌, ◌≤◌, ◌<◌, eqb, length, get_or, take, drop};
 ghost use Rattle.edition.specs.Edition.{max_variables, max_lines};
 ghost use Rattle.refusal.specs.Lists.{how_many};
-ghost use Rattle.refusal.specs.Numbers.{too_short};
-ghost use Rattle.refusal.specs.Result.{refusal};
 ghost use Rattle.constraint.specs.File.{File};
 ghost use Rattle.store.specs.Tables.{table_heads, table_bodies, line_in, lines_in};
-ghost use Rattle.index.specs.declared.IndexReply.TheVariants.{Refused};
 ghost use Rattle.index.specs.Select.{names};
 ghost use Rattle.index.specs.Index.{own_lists, own_start};
 ghost use Rattle.index.specs.Claims.{max_listed};
 ghost use Rattle.index.specs.Internal.{one, entry_of, held_file, sum_to, CountsAtMost, CountsGrown, ListRoom, LinePut, index_for};
 
-use super::IndexReply;
 use super::naming::variables_of;
 use edition::Edition;
-use refusal::{Refusal, Subject};
+use refusal::{Fault, Refusal, Subject};
 use store::lines::{TABLE_BODIES, TABLE_HEADS};
 
 // One line more for variable i; NONE has no count.
@@ -150,31 +146,20 @@ pub(crate) fn index_held<'a>(
     m: usize,
     starts: &mut [u32],
     lists: &mut [u32],
-) -> IndexReply
+) -> Result<usize, Refusal>
     requires { (length heads.now ≡ table_heads) × (length bodies.now ≡ table_bodies) × (n ≤ max_variables) × (m ≤ max_lines) }
     ensures { (f : File) → length f.variables ≡ n → f.lines ≡ lines_in heads.now bodies.now m → record { reply = result; starts = starts.new; lists = lists.new } ≡ index_for f starts.old lists.old }
 {
     if starts.len() <= n {
-        return refused(Subject::Starts);
+        return Err(Refusal::of(Subject::Starts, Fault::TooShort, 0));
     }
     let mut next = [0u32; Edition::VARIABLES];
     count(&mut next, heads, bodies, m);
     let end = accumulate(&mut next, n);
     if lists.len() < end as usize {
-        return refused(Subject::Lists);
+        return Err(Refusal::of(Subject::Lists, Fault::TooShort, 0));
     }
     put_starts(&next, n, end, starts);
     list_all(lists, &mut next, heads, bodies, n, m);
-    IndexReply::Indexed(end as usize)
-}
-
-// The room for a table of the index is too short.
-fn refused(subject: Subject) -> IndexReply
-    ensures { result ≡ Refused (refusal subject too_short 0) }
-{
-    IndexReply::Refused(Refusal {
-        number: Refusal::TOO_SHORT,
-        subject,
-        position: 0,
-    })
+    Ok(end as usize)
 }

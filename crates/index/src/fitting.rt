@@ -1,17 +1,10 @@
 // Whether an index fits a file of n variables and m lines.
-ghost use Rattle.std.specs.Prelude.{◌≡◌, ◌<◌, min, length, take, drop};
-ghost use Rattle.index.specs.Index.{index_of};
+ghost use Rattle.std.specs.Prelude.{◌≡◌, ◌<◌, length, take, drop};
+ghost use Rattle.index.specs.Index.{index_of, lent_index};
 ghost use Rattle.index.specs.AnyIndex.{starts_fit, list_fits, lists_fit, index_fits_for};
-ghost use Rattle.index.specs.Internal.{fault_result};
 
-use super::IndexFault;
-
-// The smaller of two numbers.
-pub fn lesser(a: usize, b: usize) -> usize
-    ensures { result ≡ min a b }
-{
-    if a <= b { a } else { b }
-}
+use super::LentIndex;
+use refusal::{Fault, Refusal, Subject};
 
 // Whether no start, or the end, is missing, falls or passes the room.
 fn starts_fit(starts: &[u32], lists: &[u32], n: usize) -> bool
@@ -40,7 +33,7 @@ fn starts_fit(starts: &[u32], lists: &[u32], n: usize) -> bool
 fn list_fits(lists: &[u32], from: usize, to: usize, m: usize) -> bool
     ensures { result ≡ list_fits m (drop from (take to lists.now)) }
 {
-    let end = lesser(to, lists.len());
+    let end = to.min(lists.len());
     let mut last = 0u32;
     let mut k = from;
     while k < end {
@@ -72,14 +65,14 @@ fn lists_fit(starts: &[u32], lists: &[u32], n: usize, m: usize) -> bool
 }
 
 // The test of a whole index: of the starts, then of the lists.
-pub fn index_fault(starts: &[u32], lists: &[u32], n: usize, m: usize) -> IndexFault
-    ensures { fault_result result ≡ index_fits_for n m (index_of starts.now lists.now) }
+pub fn index_fits(index: LentIndex<'_>, n: usize, m: usize) -> Result<(), Refusal>
+    ensures { result ≡ index_fits_for n m (lent_index index.entry) }
 {
-    if starts_fit(starts, lists, n) {
-        if lists_fit(starts, lists, n, m) {
-            return IndexFault::NoFault;
-        }
-        return IndexFault::OfLists;
+    if !starts_fit(index.starts, index.lists, n) {
+        return Err(Refusal::of(Subject::Starts, Fault::WrongIndex, 0));
     }
-    IndexFault::OfStarts
+    if !lists_fit(index.starts, index.lists, n, m) {
+        return Err(Refusal::of(Subject::Lists, Fault::WrongIndex, 0));
+    }
+    Ok(())
 }

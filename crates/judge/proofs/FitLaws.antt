@@ -3,7 +3,7 @@ use Prim.Native.Nat.{ℕ, zero, suc, ◌≤◌, ◌<◌, ◌^◌}
 use mathlib.Core.Path.{◌≡◌, refl}
 use mathlib.Core.Bool.{true}
 use mathlib.Core.List.{List, [], ◌∷◌, zip_with}
-use mathlib.Core.Option.{none}
+use Rattle.std.specs.Prelude.{None}
 use native.Mathlib.Decide.{dec_lt}
 use native.Mathlib.Omega.{arith}
 use lib.ListN.{length, get_or, get_or-eq_default}
@@ -27,7 +27,7 @@ use Rattle.judge.proofs.UnfitLaws.{unfit}
 use Rattle.judge.proofs.RuleLaws.{line_widths, line_typed}
 
 -- ---- a row passes its test exactly where its values fit
-all_fit : (n : ℕ) (xs : List Variable) (row : List ℕ) (i : ℕ) → length row ≡ length xs → first_from unfit n (value_words xs row) ≡ none → i < length xs → get_or row i 0 < 2 ^ width_at xs i
+all_fit : (n : ℕ) (xs : List Variable) (row : List ℕ) (i : ℕ) → length row ≡ length xs → first_from unfit n (value_words xs row) ≡ None → i < length xs → get_or row i 0 < 2 ^ width_at xs i
 unfolding value_words zip_with width_at
 all_fit n [] row i h e p = let z : ⊥ = omega arith in absurd z
 all_fit n (x ∷ xs) [] i h e p = let z : ⊥ = omega arith in absurd z
@@ -38,7 +38,7 @@ all_fit n (x ∷ xs) (v ∷ row) (suc i) h e p =
     let w : Word = record { width = x.width; value = v } in
     all_fit (suc n) xs row i (omega arith) (first_none unfit n w (value_words xs row) e).1 (omega arith)
 
-none_unfit : (n : ℕ) (xs : List Variable) (row : List ℕ) → ((i : ℕ) → get_or row i 0 < 2 ^ width_at xs i) → first_from unfit n (value_words xs row) ≡ none
+none_unfit : (n : ℕ) (xs : List Variable) (row : List ℕ) → ((i : ℕ) → get_or row i 0 < 2 ^ width_at xs i) → first_from unfit n (value_words xs row) ≡ None
 unfolding value_words zip_with width_at first_from
 none_unfit n [] row h = refl
 none_unfit n (x ∷ xs) [] h = refl
@@ -54,11 +54,11 @@ fits_none xs row l h i = elim (dec_lt i (length xs)) [
 ]
 
 module _ (xs : List Variable) (row : List ℕ) where
-  pub row_fits : length row ≡ length xs → first_unfit xs row ≡ none → RowFits xs row
+  pub row_fits : length row ≡ length xs → first_unfit xs row ≡ None → RowFits xs row
   unfolding first_unfit
   row_fits l e = fits_none xs row l (λ i p. all_fit 0 xs row i l e p)
 
-  pub unfit_none : RowFits xs row → first_unfit xs row ≡ none
+  pub unfit_none : RowFits xs row → first_unfit xs row ≡ None
   unfolding first_unfit
   unfit_none h = none_unfit 0 xs row h
 

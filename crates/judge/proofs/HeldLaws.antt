@@ -2,7 +2,7 @@
 use mathlib.Core.Path.{◌≡◌, sym}
 use mathlib.Core.List.{List}
 use Prim.Native.Nat.{ℕ, ◌<◌}
-use Rattle.refusal.specs.Result.{accepted}
+use Rattle.refusal.specs.Result.{Ok}
 use Rattle.constraint.specs.File.{Variable}
 use Rattle.constraint.specs.Read.{read_file}
 use Rattle.constraint.specs.Sound.{Each}
@@ -20,6 +20,6 @@ pub judgeable_all : (xs : List Variable) (row heads bodies : List ℕ) (m : ℕ)
 judgeable_all xs row heads bodies m f h k p = record { variables = xs; heads_fit = f k p; rules = each_line (Fitting xs row) heads bodies m k h p }
 
 -- so do an accepted file's, where the row fits
-pub lines_fit : (bytes : List ℕ) (t : Store) (p : Progress) (row : List ℕ) → accepted (stored_file bytes t p) ≡ read_file bytes → HeadsInUseFit bytes t p → RowFits (variables_in bytes t.variables p.variables) row → (k : ℕ) → k < p.lines → Judgeable row t.heads t.bodies k
+pub lines_fit : (bytes : List ℕ) (t : Store) (p : Progress) (row : List ℕ) → Ok (stored_file bytes t p) ≡ read_file bytes → HeadsInUseFit bytes t p → RowFits (variables_in bytes t.variables p.variables) row → (k : ℕ) → k < p.lines → Judgeable row t.heads t.bodies k
 lines_fit bytes t p row e f h =
     judgeable_all (variables_in bytes t.variables p.variables) row t.heads t.bodies p.lines f (fits_fit (stored_file bytes t p) row (accepted_is_sound bytes (stored_file bytes t p) (sym e)) h)

@@ -3,7 +3,7 @@ use Prim.Native.Nat.{ℕ, zero, suc, ◌+◌, ◌≤◌, ◌<◌}
 use mathlib.Core.Path.{◌≡◌, refl, sym, ap, ◌∙◌}
 use mathlib.Core.Bool.{Bool, true, false, not}
 use mathlib.Core.List.{List, [], ◌∷◌, zip_with}
-use mathlib.Core.Option.{Option, none, some}
+use Rattle.std.specs.Prelude.{Option, None, Some}
 use native.Mathlib.Omega.{arith}
 use lib.ListN.{length, get_or, take, drop}
 use lib.Seq.{length-take-le, get_or-take}
@@ -53,7 +53,7 @@ module _ (file table : List ℕ) (n : ℕ) (values : List ℕ) (room : n ≤ len
   long = held_length (variables_in file table n) (take n values) matched ∙ many
 
   module _ (i : ℕ) where
-    pub unfit_nowhere : n ≤ i → unfit_from file table n values i ≡ none
+    pub unfit_nowhere : n ≤ i → unfit_from file table n values i ≡ None
     unfolding unfit_from
     unfit_nowhere h = first_nowhere unfit i (value_words (variables_in file table n) (take n values)) i (omega (arith, long))
 
@@ -65,7 +65,7 @@ module _ (file table : List ℕ) (n : ℕ) (values : List ℕ) (room : n ≤ len
       held_entry : (d : Word) → get_or (value_words (variables_in file table n) (take n values)) i d ≡ entry
       held_entry d = held_at (variables_in file table n) (take n values) i d matched (omega (arith, many)) ∙ rw (get_or-take n values i 0 h)
 
-      pub unfit_here : fits entry ≡ false → unfit_from file table n values i ≡ some i
+      pub unfit_here : fits entry ≡ false → unfit_from file table n values i ≡ Some i
       unfolding unfit_from
       unfit_here e = first_here unfit i (value_words (variables_in file table n) (take n values)) i entry (omega (arith, long)) (rw (held_entry entry, e))
 

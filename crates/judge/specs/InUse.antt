@@ -1,16 +1,17 @@
 -- The lent tables: values, "one for each variable in declaration order"; verdicts and results, "one for each `c` or `p` line". All may be longer.
 use Rattle.std.specs.Prelude.{ℕ, ◌≤◌, not, ltb, leb, length, take, drop}
 use mathlib.Core.List.{List, ◌++◌, zip_with}
-use Rattle.std.proofs.Math.Option.{Option}
+use Rattle.std.specs.Prelude.{Option}
 use Rattle.refusal.specs.declared.Subject.{Subject}
 use Rattle.refusal.specs.declared.Subject.TheVariants.{Values, Verdicts, Results}
-use Rattle.refusal.specs.Numbers.{too_short, held_does_not_fit}
+use Rattle.refusal.specs.declared.Fault.TheVariants.{TooShort, HeldDoesNotFit}
 use Rattle.refusal.specs.Lists.{first_from}
-use Rattle.refusal.specs.Result.{Result, refusal, ensure, ensure_none, ◌>>◌}
+use Rattle.refusal.specs.Result.{Reply, refusal, ensure, ensure_none, ◌>>◌}
 use Rattle.arithmetic.specs.declared.Word.{Word}
 use Rattle.arithmetic.specs.Rules.{fits}
 use Rattle.constraint.specs.File.{Variable, File}
-use Rattle.judge.specs.Judge.{verdict_disregarded, fresh_verdicts, fresh_results}
+use Rattle.judge.specs.Verdict.{verdict_disregarded}
+use Rattle.judge.specs.Judge.{fresh_verdicts, fresh_results}
 
 pub record Tables : Type 0 where
   pub values : List ℕ
@@ -61,14 +62,14 @@ pub record EnoughRoom (f : File) (lent : Room) : Type 0 where
   pub results : length f.lines ≤ lent.results
 
 -- 21, of a table with n entries: no fewer than are in use
-abbrev pub values_room : File → ℕ → Result (Unit {0})
-values_room f n = ensure (leb (length f.variables) n) (refusal Values too_short 0)
+abbrev pub values_room : File → ℕ → Reply (Unit {0})
+values_room f n = ensure (leb (length f.variables) n) (refusal Values TooShort 0)
 
-abbrev pub column_room : Subject → File → ℕ → Result (Unit {0})
-column_room subject f n = ensure (leb (length f.lines) n) (refusal subject too_short 0)
+abbrev pub column_room : Subject → File → ℕ → Reply (Unit {0})
+column_room subject f n = ensure (leb (length f.lines) n) (refusal subject TooShort 0)
 
 -- "Of several short tables 21 speaks of the first: values, verdicts, then later ones as requests added them"
-unfoldable pub tables_room : File → Room → Result (Unit {0})
+unfoldable pub tables_room : File → Room → Reply (Unit {0})
 tables_room f lent = do
   values_room f lent.values
   column_room Verdicts f lent.verdicts
@@ -85,8 +86,8 @@ unfoldable pub first_unfit : List Variable → List ℕ → Option ℕ
 first_unfit xs row = first_from (λ w. not (fits w)) 0 (value_words xs row)
 
 -- 24: "a held value doesn't fit, or a verdict above 2", at the "first such entry, from 0"
-abbrev pub values_fit : File → List ℕ → Result (Unit {0})
-values_fit f values = ensure_none (first_unfit f.variables (row_in_use f values)) (refusal Values held_does_not_fit)
+abbrev pub values_fit : File → List ℕ → Reply (Unit {0})
+values_fit f values = ensure_none (first_unfit f.variables (row_in_use f values)) (refusal Values HeldDoesNotFit)
 
-abbrev pub verdicts_fit : File → List ℕ → Result (Unit {0})
-verdicts_fit f verdicts = ensure_none (first_from (ltb verdict_disregarded) 0 (column_in_use f verdicts)) (refusal Verdicts held_does_not_fit)
+abbrev pub verdicts_fit : File → List ℕ → Reply (Unit {0})
+verdicts_fit f verdicts = ensure_none (first_from (ltb verdict_disregarded) 0 (column_in_use f verdicts)) (refusal Verdicts HeldDoesNotFit)

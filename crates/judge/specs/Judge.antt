@@ -1,6 +1,5 @@
 -- The verdicts on the lines of a file under a row of values, one for each variable in declaration order, and the lines' results.
-use Rattle.std.specs.Prelude.{ℕ, cond, List, map, eqb}
-use Rattle.std.proofs.Math.Option.{Option, none, some}
+use Rattle.std.specs.Prelude.{ℕ, List, map, eqb, Option, None, Some}
 use Rattle.refusal.specs.Lists.{first_from}
 use Rattle.arithmetic.specs.Meaning.{meaning}
 use Rattle.constraint.specs.declared.Line.{Line}
@@ -8,25 +7,11 @@ use Rattle.constraint.specs.File.{Variable, File, operand_word, target}
 use Rattle.judge.specs.declared.Judged.{Judged}
 use Rattle.judge.specs.declared.Overall.{Overall}
 use Rattle.judge.specs.declared.Overall.TheVariants.{Satisfied, Violated, Disregarded}
-
--- "Verdict bytes: 1 holds, 0 violated, 2 disregarded"
-abbrev pub verdict_violated : ℕ
-verdict_violated = 0
-
-abbrev pub verdict_holds : ℕ
-verdict_holds = 1
-
-abbrev pub verdict_disregarded : ℕ
-verdict_disregarded = 2
+pub use Rattle.judge.specs.Verdict.{verdict_byte, verdict_violated, verdict_holds, verdict_disregarded, judged}
 
 -- the result of a line, of the width of its target; missing where its divisor is zero. An accepted file's lines keep their rules, so under values that fit nothing else makes it missing (`ResultsAreThere`)
 unfoldable pub result_of : List Variable → List ℕ → Line → Option ℕ
 result_of xs row l = meaning l.operator (target xs row l.output).width (operand_word xs row l.operands.first) (operand_word xs row l.operands.second) (operand_word xs row l.operands.third)
-
--- a result against what it must be: the verdict, and the result, 0 where there is none
-abbrev pub judged : Option ℕ → ℕ → Judged
-judged none goal = record { verdict = verdict_disregarded; result = 0 }
-judged (some r) goal = record { verdict = cond (eqb r goal) verdict_holds verdict_violated; result = r }
 
 -- "A line holds if the result equals the output (`c`) or is 1 (`p`)"
 unfoldable pub judge : List Variable → List ℕ → Line → Judged
@@ -38,7 +23,7 @@ column_of part xs row = map (λ l. part (judge xs row l))
 
 -- the verdicts on lines, and "the operator's result as a 64-bit word: for a `p` line 0 or 1, for a disregarded line 0"
 abbrev pub verdicts_of : List Variable → List ℕ → List Line → List ℕ
-verdicts_of = column_of (λ j. j.verdict)
+verdicts_of = column_of (λ j. verdict_byte j.verdict)
 
 abbrev pub results_of : List Variable → List ℕ → List Line → List ℕ
 results_of = column_of (λ j. j.result)
@@ -56,9 +41,9 @@ first_verdict v = first_from (eqb v) 1
 
 -- "disregarded if any line is 2, else violated if any is 0, else satisfied; the first two name the first such line, from 1"
 abbrev pub overall_by : Option ℕ → Option ℕ → Overall
-overall_by (some n) other = Disregarded n
-overall_by none (some n) = Violated n
-overall_by none none = Satisfied
+overall_by (Some n) other = Disregarded n
+overall_by None (Some n) = Violated n
+overall_by None None = Satisfied
 
 unfoldable pub overall_of : List ℕ → Overall
 overall_of vs = overall_by (first_verdict verdict_disregarded vs) (first_verdict verdict_violated vs)

@@ -1,3 +1,4 @@
+pub mod Verdict
 pub mod Judge
 pub mod InUse
 pub mod Claims

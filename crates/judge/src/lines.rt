@@ -6,10 +6,10 @@ ghost use Rattle.store.specs.Tables.{line_bodies, table_heads, table_bodies, ope
 ghost use Rattle.judge.specs.Judge.{judge, verdicts_of, results_of};
 ghost use Rattle.judge.specs.Fitting.{Judgeable};
 
-use super::Judged;
+use super::{Judged, Verdict};
 use arithmetic::Word;
 use arithmetic::rules::I1;
-use evaluation::{Evaluated, evaluate};
+use evaluation::evaluate;
 use store::lines::{
     ABSENT, FIRST, OUTPUT, SECOND, TABLE_BODIES, TABLE_HEADS, THIRD, body_of, head_of, head_width,
     is_variable, operator_of,
@@ -82,25 +82,18 @@ pub fn judge_line<'a>(
     let b = operand_word(row, heads, bodies, k, SECOND);
     let c = operand_word(row, heads, bodies, k, THIRD);
     let goal = target(row, heads, bodies, k);
-    match evaluate(op, goal.width, a, b, c) {
-        Evaluated::Value(result) => {
-            if result == goal.value {
-                Judged {
-                    verdict: Judged::HOLDS,
-                    result,
-                }
-            } else {
-                Judged {
-                    verdict: Judged::VIOLATED,
-                    result,
-                }
-            }
-        }
-        Evaluated::ZeroDivisor => Judged {
-            verdict: Judged::DISREGARDED,
+    let Some(result) = evaluate(op, goal.width, a, b, c) else {
+        return Judged {
+            verdict: Verdict::Disregarded,
             result: 0,
-        },
-    }
+        };
+    };
+    let verdict = if result == goal.value {
+        Verdict::Holds
+    } else {
+        Verdict::Violated
+    };
+    Judged { verdict, result }
 }
 
 // Puts the verdicts on the first m lines of the table at the front of `verdicts`, and their results at that of `results`.
@@ -118,7 +111,7 @@ pub fn judge_all<'a>(
     let mut i = 0;
     while i < m {
         let judged = judge_line(row, heads, bodies, i);
-        verdicts[i] = judged.verdict;
+        verdicts[i] = judged.verdict.byte();
         results[i] = judged.result;
         i += 1;
     }

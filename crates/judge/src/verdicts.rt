@@ -1,15 +1,12 @@
 // The overall verdict of a table.
-ghost use Rattle.std.specs.Prelude.{◌≡◌};
-ghost use Rattle.refusal.specs.Lists.{is_there};
-ghost use Rattle.store.specs.Tables.{place};
-ghost use Rattle.judge.specs.Judge.{first_verdict, overall_of, overall_number};
+ghost use Rattle.std.specs.Prelude.{◌≡◌, is_some};
+ghost use Rattle.judge.specs.Judge.{verdict_byte, first_verdict, overall_of, overall_number};
 
-use super::{Judged, Overall};
-use store::Found;
+use super::{Overall, Verdict};
 
 // Whether there is a verdict v. All are looked at: the compiler makes vector code of a loop that does not stop.
 fn has_verdict(verdicts: &[u8], v: u8) -> bool
-    ensures { result ≡ is_there (first_verdict v verdicts.now) }
+    ensures { result ≡ is_some (first_verdict v verdicts.now) }
 {
     let mut found = false;
     let mut i = 0;
@@ -20,34 +17,35 @@ fn has_verdict(verdicts: &[u8], v: u8) -> bool
     found
 }
 
-// The line, from 1, of the first verdict v.
-fn first_verdict(verdicts: &[u8], v: u8) -> Found
-    ensures { place result ≡ first_verdict v verdicts.now }
+// The line, from 1, that has a verdict first.
+fn first_verdict(verdicts: &[u8], verdict: Verdict) -> Option<usize>
+    ensures { result ≡ first_verdict (verdict_byte verdict) verdicts.now }
 {
+    let v = verdict.byte();
     if !has_verdict(verdicts, v) {
-        return Found::Nowhere;
+        return None;
     }
     let mut i = 0;
     while i < verdicts.len() {
         if v == verdicts[i] {
-            return Found::At(i + 1);
+            return Some(i + 1);
         }
         i += 1;
     }
-    Found::Nowhere
+    None
 }
 
 // Disregarded if any line is, else violated if any is, else satisfied.
 pub fn overall(verdicts: &[u8]) -> Overall
     ensures { result ≡ overall_of verdicts.now }
 {
-    match first_verdict(verdicts, Judged::DISREGARDED) {
-        Found::At(n) => Overall::Disregarded(n),
-        Found::Nowhere => match first_verdict(verdicts, Judged::VIOLATED) {
-            Found::At(n) => Overall::Violated(n),
-            Found::Nowhere => Overall::Satisfied,
-        },
+    if let Some(n) = first_verdict(verdicts, Verdict::Disregarded) {
+        return Overall::Disregarded(n);
     }
+    if let Some(n) = first_verdict(verdicts, Verdict::Violated) {
+        return Overall::Violated(n);
+    }
+    Overall::Satisfied
 }
 
 // The number of an overall verdict.

@@ -2,12 +2,12 @@
 use Prim.Native.Nat.{ℕ, suc}
 use mathlib.Core.Path.{◌≡◌, refl, sym, ◌∙◌}
 use mathlib.Core.List.{List, [], ◌∷◌}
-use mathlib.Core.Option.{none, some}
+use Rattle.std.specs.Prelude.{None, Some}
 use native.Mathlib.Omega.{arith}
 use lib.ListN.{take-append-drop}
 use Rattle.edition.specs.Edition.{edition10, edition_numbered, is_width}
 use Rattle.refusal.specs.Lists.{every, first_from}
-use Rattle.refusal.specs.Result.{accepted}
+use Rattle.refusal.specs.Result.{Ok}
 use Rattle.refusal.specs.SubjectWords.{ascii}
 use Rattle.refusal.proofs.ResultLaws.{never}
 use Rattle.text.specs.Bytes.{same, front_of, is_space, is_line_feed, is_carriage_return, is_allowed, is_digit, is_letter, is_name_byte}
@@ -34,14 +34,14 @@ abbrev switch_down : List ℕ
 switch_down = ascii "s SATISFIABLE\nv a=0\n"
 
 abbrev switch_file : File
-switch_file = record { version = some edition10; expectation = none; variables = record { name = ascii "a"; width = 1 } ∷ []; lines = [] }
+switch_file = record { version = Some edition10; expectation = None; variables = record { name = ascii "a"; width = 1 } ∷ []; lines = [] }
 
-switch_read : read_file switch ≡ accepted switch_file
+switch_read : read_file switch ≡ Ok switch_file
 unfolding edition_numbered is_width every first_from same front_of is_space is_line_feed is_carriage_return is_allowed is_digit is_letter is_name_byte terminator_length content_of line_length line_of lines_from token_of tokens_from leads is_name is_numeral decimal_from leading_zero is_type up_to behind read_any_line read_lines read_text variable_named bitwise_spellings predicate_spellings arithmetic_spellings shift_and_cast_spellings spellings operator_spelt in_header read_single version_of read_version declare declare_all read_declarations kind_of read_as read_line read_file
 switch_read = refl
 
-down_read : answer.read_answer switch_file.variables switch_down ≡ accepted (0 ∷ [])
-unfolding every first_from same front_of is_space is_line_feed is_carriage_return is_allowed is_digit is_letter is_name_byte terminator_length content_of line_length line_of lines_from token_of tokens_from leads is_name is_numeral decimal_from up_to behind read_any_line read_lines read_text variable_named width_at bitwise_spellings predicate_spellings arithmetic_spellings shift_and_cast_spellings spellings operator_spelt answer.solution_of answer.read_word answer.read_solution answer.setting_of answer.read_setting answer.read_settings answer.read_values answer.answer_kind answer.read_answer_as answer.read_answer_line answer.all_set answer.read_answer
+down_read : answer.read_answer switch_file.variables switch_down ≡ Ok (0 ∷ [])
+unfolding every first_from same front_of is_space is_line_feed is_carriage_return is_allowed is_digit is_letter is_name_byte terminator_length content_of line_length line_of lines_from token_of tokens_from leads is_name is_numeral decimal_from up_to behind read_any_line read_lines read_text variable_named width_at bitwise_spellings predicate_spellings arithmetic_spellings shift_and_cast_spellings spellings operator_spelt answer.solution_of answer.read_solution answer.setting_of answer.read_setting answer.read_settings answer.read_values answer.answer_kind answer.read_answer_as answer.read_answer_line answer.all_set answer.read_answer
 down_read = refl
 
 -- the tables before and after the check, and with the switch up
@@ -54,7 +54,7 @@ switch_checked = record { file_is_read = switch_read; answer_is_read = down_read
 
 -- ---- two changes of it, lent the whole tables
 abbrev flip : ℕ → Turn
-flip v = record { call = changing 0 v none; lent = record { values = 1; verdicts = 0; results = 0 } }
+flip v = record { call = changing 0 v None; lent = record { values = 1; verdicts = 0; results = 0 } }
 
 flip_of_run : (v : ℕ) → OfRun switch_file (switch_at 0) (flip v)
 flip_of_run v = record { within = record { values = omega arith; verdicts = omega arith; results = omega arith }; index = tt }

@@ -3,7 +3,7 @@ use Prim.Native.Nat.{ℕ, suc, ◌<◌}
 use mathlib.Core.Path.{◌≡◌, refl, sym, ap, ap₂}
 use mathlib.Core.Bool.{Bool, true, false, cond, ◌||◌}
 use mathlib.Core.List.{List, [], ◌∷◌, map}
-use mathlib.Core.Option.{Option, none, some}
+use Rattle.std.specs.Prelude.{Option, None, Some}
 use lib.Dec.{eqb, ltb}
 use lib.ListN.{length, set}
 use lib.Seq.{get_or-set_other}
@@ -15,7 +15,8 @@ use Rattle.constraint.specs.declared.Operand.TheVariants.{Absent, Var, Const}
 use Rattle.constraint.specs.declared.Line.{Line}
 use Rattle.constraint.specs.File.{Variable, File, operand_word, target}
 use Rattle.judge.specs.declared.Judged.{Judged}
-use Rattle.judge.specs.Judge.{verdict_violated, verdict_holds, verdict_disregarded, result_of, judged, judge, column_of, verdicts_of}
+use Rattle.judge.specs.declared.Verdict.TheVariants.{Violated, Holds}
+use Rattle.judge.specs.Judge.{verdict_byte, verdict_disregarded, result_of, judged, judge, column_of, verdicts_of}
 use Rattle.judge.specs.InUse.{fresh_tables}
 use Rattle.index.specs.Select.{is_variable, names, naming}
 use Rattle.index.specs.Index.{Index}
@@ -71,18 +72,18 @@ renewed_fresh part f row i v = renewed_all (names i) (λ l. part (judge f.variab
 -- so does a change through no index, or the file's own
 pub step_fresh : (f : File) (x : Option Index) → OwnOrNone f x → (c : Change) (row : List ℕ) → c.variable < length f.variables → step f x c (fresh_tables f row) ≡ fresh_tables f (set row c.variable c.value)
 unfolding step
-step_fresh f x own c row h = rw (concerned_naming f x own c.variable h, renewed_fresh (λ j. j.verdict) f row c.variable c.value, renewed_fresh (λ j. j.result) f row c.variable c.value)
+step_fresh f x own c row h = rw (concerned_naming f x own c.variable h, renewed_fresh (λ j. verdict_byte j.verdict) f row c.variable c.value, renewed_fresh (λ j. j.result) f row c.variable c.value)
 
 -- ---- no verdict is above 2
-low : (t : Bool) → ltb verdict_disregarded (cond t verdict_holds verdict_violated) ≡ false
+low : (t : Bool) → ltb verdict_disregarded (verdict_byte (cond t Holds Violated)) ≡ false
 low true = refl
 low false = refl
 
-judged_low : (o : Option ℕ) (goal : ℕ) → ltb verdict_disregarded (judged o goal).verdict ≡ false
-judged_low none goal = refl
-judged_low (some r) goal = low (eqb r goal)
+judged_low : (o : Option ℕ) (goal : ℕ) → ltb verdict_disregarded (verdict_byte (judged o goal).verdict) ≡ false
+judged_low None goal = refl
+judged_low (Some r) goal = low (eqb r goal)
 
-pub none_above : (xs : List Variable) (row : List ℕ) (n : ℕ) (ls : List Line) → first_from (ltb verdict_disregarded) n (verdicts_of xs row ls) ≡ none
+pub none_above : (xs : List Variable) (row : List ℕ) (n : ℕ) (ls : List Line) → first_from (ltb verdict_disregarded) n (verdicts_of xs row ls) ≡ None
 unfolding column_of first_from judge
 none_above xs row n [] = refl
 none_above xs row n (l ∷ ls) = rw (judged_low (result_of xs row l) (target xs row l.output).value) (none_above xs row (suc n) ls)

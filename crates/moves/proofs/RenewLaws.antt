@@ -3,7 +3,7 @@ use Prim.Native.Nat.{ℕ, zero, suc, ◌+◌, ◌-◌, ◌≤◌, ◌<◌}
 use mathlib.Core.Path.{◌≡◌, refl, sym, ap, ap₂, ◌∙◌}
 use mathlib.Core.Bool.{Bool, true, false, cond, not}
 use mathlib.Core.List.{List, [], ◌∷◌, ◌++◌, map, zip_with}
-use mathlib.Core.Option.{Option}
+use Rattle.std.specs.Prelude.{Option}
 use native.Mathlib.Numerals.{add-one}
 use native.Mathlib.Omega.{arith}
 use lib.Dec.{eqb}
@@ -20,7 +20,7 @@ use Rattle.store.specs.Tables.{line_in, lines_in}
 use Rattle.store.proofs.TableLaws.{get_d_tabulate}
 use Rattle.store.proofs.LineTableLaws.{lines_length}
 use Rattle.judge.specs.declared.Judged.{Judged}
-use Rattle.judge.specs.Judge.{judge, column_of}
+use Rattle.judge.specs.Judge.{verdict_byte, judge, column_of}
 use Rattle.judge.proofs.VerdictLaws.{column_length}
 use Rattle.index.specs.Select.{names, naming, selected}
 use Rattle.index.specs.Index.{Index}
@@ -163,6 +163,11 @@ module _ (fresh old : List ℕ) (m : ℕ) (many : length fresh ≡ m) (room : m 
         rw (more, still) (differing_more held now k (get_or fresh k 0) (now_long ∙ sym held_long) (rw held_long h) not_yet)
 
 -- ---- both columns, and the counts
+-- what the columns have for line k
+pub record FreshAt (fresh : Columns) (k : ℕ) (line : Judged) : Type 0 where
+  pub verdict : get_or fresh.verdicts k 0 ≡ verdict_byte line.verdict
+  pub result : get_or fresh.results k 0 ≡ line.result
+
 module _ (fresh old : Columns) (m : ℕ) (many : (length fresh.verdicts ≡ m) × (length fresh.results ≡ m)) (room : (m ≤ length old.verdicts) × (m ≤ length old.results)) where
   pub start_renewed : Renewed (replicate m false) fresh m old old (record { named = 0; altered = 0 })
   start_renewed = record {
@@ -172,21 +177,19 @@ module _ (fresh old : Columns) (m : ℕ) (many : (length fresh.verdicts ≡ m) �
   }
 
   module _ (bs : List Bool) (columns : Columns) (r : Renewal) (long : length bs ≡ m) (t : Renewed bs fresh m old columns r) (k : ℕ) (h : k < m) (new : get_or bs k false ≡ false) where
-    abbrev fresh_line : Judged
-    fresh_line = record { verdict = get_or fresh.verdicts k 0; result = get_or fresh.results k 0 }
-
-    pub pick_renewed : Renewed (set bs k true) fresh m old (set_line columns k fresh_line) (record { named = r.named + 1; altered = r.altered + differs (get_or columns.verdicts k 0) fresh_line.verdict })
-    pick_renewed = record {
-      made = rw t.made (ap₂ columns_of (column_pick fresh.verdicts old.verdicts m many.0 room.0 bs long k h) (column_pick fresh.results old.results m many.1 room.1 bs long k h));
+    pub pick_renewed : (line : Judged) → FreshAt fresh k line
+        → Renewed (set bs k true) fresh m old (set_line columns k line) (record { named = r.named + 1; altered = r.altered + differs (get_or columns.verdicts k 0) (verdict_byte line.verdict) })
+    pick_renewed line is = record {
+      made = rw (t.made, ← is.verdict, ← is.result) (ap₂ columns_of (column_pick fresh.verdicts old.verdicts m many.0 room.0 bs long k h) (column_pick fresh.results old.results m many.1 room.1 bs long k h));
       counted = omega (arith, t.counted, selected_more bs k (rw long h) new);
-      differed = rw (t.made, t.differed) (sym (differing_pick fresh.verdicts old.verdicts m many.0 room.0 bs long k h new));
+      differed = rw (t.made, t.differed, ← is.verdict) (sym (differing_pick fresh.verdicts old.verdicts m many.0 room.0 bs long k h new));
     }
 
     -- where a test passes
-    if_renewed : (test : Bool) (after : Columns) (one : Renewal) → RenewedIf test fresh_line k columns after one
+    if_renewed : (line : Judged) → FreshAt fresh k line → (test : Bool) (after : Columns) (one : Renewal) → RenewedIf test line k columns after one
         → Renewed (cond test (set bs k true) bs) fresh m old after (record { named = r.named + one.named; altered = r.altered + one.altered })
-    if_renewed true after one i = rw (i.made, i.counted, i.differed) pick_renewed
-    if_renewed false after one i = record { made = i.made ∙ t.made; counted = omega (arith, i.counted, t.counted); differed = omega (arith, i.differed, t.differed) }
+    if_renewed line is true after one i = rw (i.made, i.counted, i.differed) (pick_renewed line is)
+    if_renewed line is false after one i = record { made = i.made ∙ t.made; counted = omega (arith, i.counted, t.counted); differed = omega (arith, i.differed, t.differed) }
 
 -- ---- of a selection the first k lines
 pub up_to : ℕ → List Bool → List Bool
@@ -269,11 +272,11 @@ module _ (xs : List Variable) (heads bodies : List ℕ) (m : ℕ) (row : List �
   fresh_length : (length fresh.verdicts ≡ m) × (length fresh.results ≡ m)
   fresh_length =
       let ls = lines_in heads bodies m in
-      (column_length (λ j. j.verdict) xs row ls ∙ lines_length heads bodies m, column_length (λ j. j.result) xs row ls ∙ lines_length heads bodies m)
+      (column_length (λ j. verdict_byte j.verdict) xs row ls ∙ lines_length heads bodies m, column_length (λ j. j.result) xs row ls ∙ lines_length heads bodies m)
 
-  fresh_at : (k : ℕ) → k < m → record { verdict = get_or fresh.verdicts k 0; result = get_or fresh.results k 0 } ≡ judged_in xs row heads bodies k
+  fresh_at : (k : ℕ) → k < m → FreshAt fresh k (judged_in xs row heads bodies k)
   unfolding column_of
-  fresh_at k h = rw (line_mapped (λ l. (judge xs row l).verdict) k 0 h, line_mapped (λ l. (judge xs row l).result) k 0 h)
+  fresh_at k h = record { verdict = line_mapped (λ l. verdict_byte (judge xs row l).verdict) k 0 h; result = line_mapped (λ l. (judge xs row l).result) k 0 h }
 
   -- the lines that name a variable
   module _ (i : ℕ) where
@@ -300,7 +303,7 @@ module _ (xs : List Variable) (heads bodies : List ℕ) (m : ℕ) (row : List �
         let bs = naming file i in
         let long = up_to_length k bs ∙ naming_length in
         let more : up_to (k + 1) bs ≡ cond (names i (line_in heads bodies k)) (set (up_to k bs) k true) (up_to k bs) = rw (add-one k, ← naming_at k h) (up_to_more k bs (rw naming_length h)) in
-        rw more (if_renewed fresh old m fresh_length room (up_to k bs) columns (record { named = named; altered = altered }) long t k h (up_to_not_yet k bs) (names i (line_in heads bodies k)) after one (rw (fresh_at k h) r))
+        rw more (if_renewed fresh old m fresh_length room (up_to k bs) columns (record { named = named; altered = altered }) long t k h (up_to_not_yet k bs) _ (fresh_at k h) (names i (line_in heads bodies k)) after one r)
 
     pub named_end : (columns : Columns) (named altered : ℕ) → NamedTurn columns named altered m → Renewed (naming file i) fresh m old columns (record { named = named; altered = altered })
     named_end columns named altered t = rw (up_to_all m (naming file i) (rw naming_length (omega arith))) at t
@@ -317,7 +320,7 @@ module _ (xs : List Variable) (heads bodies : List ℕ) (m : ℕ) (row : List �
     -- the next, which has number `line` from 0
     pub listed_next : Roomy → list_fits m list ≡ true → (columns : Columns) (altered k : ℕ) → ListedTurn columns altered k → k < length list
         → (line : ℕ) → line ≡ get_or list k 0 - 1
-        → (after : Columns) (one : ℕ) → one ≡ differs (get_or columns.verdicts line 0) (judged_in xs row heads bodies line).verdict → after ≡ set_line columns line (judged_in xs row heads bodies line)
+        → (after : Columns) (one : ℕ) → one ≡ differs (get_or columns.verdicts line 0) (verdict_byte (judged_in xs row heads bodies line).verdict) → after ≡ set_line columns line (judged_in xs row heads bodies line)
         → ListedTurn after (altered + one) (k + 1)
     listed_next room fits columns altered k t h line e after one d put =
         let ls = lines_in heads bodies m in
@@ -327,7 +330,7 @@ module _ (xs : List Variable) (heads bodies : List ℕ) (m : ℕ) (row : List �
         let long = numbered_length (take k list) 1 ls ∙ lines_length heads bodies m in
         let new : is_one_of (1 + line) (take k list) ≡ false = rw is (rising_new 1 (suc m) list k (list_rises m list fits) h) in
         let more : numbered (take (k + 1) list) 1 ls ≡ set (numbered (take k list) 1 ls) line true = rw (add-one k, take-suc list k 0 h, ← is) (numbered_more (take k list) line 1 ls (rw (lines_length heads bodies m) within)) in
-        rw (more, d, put, ← fresh_at line within) (pick_renewed fresh old m fresh_length room (numbered (take k list) 1 ls) columns (record { named = k; altered = altered }) long t line within (numbered_none (take k list) 1 ls line new))
+        rw (more, d, put) (pick_renewed fresh old m fresh_length room (numbered (take k list) 1 ls) columns (record { named = k; altered = altered }) long t line within (numbered_none (take k list) 1 ls line new) _ (fresh_at line within))
 
     pub listed_end : (columns : Columns) (altered : ℕ) → ListedTurn columns altered (length list) → Renewed (numbered list 1 (lines_in heads bodies m)) fresh m old columns (record { named = length list; altered = altered })
     listed_end columns altered t = rw (take-length list) at t
@@ -345,4 +348,4 @@ altered_most true a b = differs_most a b
 altered_most false a b = omega arith
 
 pub renewed_most : (test : Bool) (fresh : Judged) (k : ℕ) (old new : Columns) (r : Renewal) → RenewedIf test fresh k old new r → (r.named ≤ 1) × (r.altered ≤ 1)
-renewed_most test fresh k old new r e = (rw e.counted (one_most test), rw e.differed (altered_most test (get_or old.verdicts k 0) fresh.verdict))
+renewed_most test fresh k old new r e = (rw e.counted (one_most test), rw e.differed (altered_most test (get_or old.verdicts k 0) (verdict_byte fresh.verdict)))

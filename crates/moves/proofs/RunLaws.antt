@@ -4,19 +4,18 @@ use mathlib.Core.Path.{◌≡◌, refl, sym, ap, ap₂, ◌∙◌}
 use mathlib.Core.List.{List, [], ◌∷◌, ◌++◌, map}
 use lib.ListN.{length, drop, set, length-set}
 use lib.Seq.{length-take-le}
-use Rattle.refusal.specs.Result.{Result, accepted, refused, ◌>>◌}
+use Rattle.refusal.specs.Result.{Reply, Ok, Err, ◌>>◌}
 use Rattle.constraint.specs.File.{File}
 use Rattle.constraint.specs.Read.{read_file}
 use Rattle.constraint.specs.Sound.{Each}
-use Rattle.judge.specs.Judge.{fresh_verdicts, fresh_results}
+use Rattle.judge.specs.Judge.{verdict_byte, fresh_verdicts, fresh_results}
 use Rattle.judge.specs.InUse.{Tables, in_use, fresh_tables, room_of, values_fit, verdicts_fit}
 use Rattle.judge.specs.Claims.{RowFits}
 use Rattle.judge.proofs.FitLaws.{unfit_none}
 use Rattle.judge.proofs.VerdictLaws.{column_length}
 use Rattle.index.specs.AnyIndex.{index_fits}
 use Rattle.index.proofs.OwnIndexLaws.{index_fits_lem, concerned_naming}
-use Rattle.moves.specs.declared.ChangeReply.{ChangeReply}
-use Rattle.moves.specs.declared.ChangeReply.TheVariants.{Changed}
+use Rattle.moves.specs.declared.Effect.{Effect}
 use Rattle.moves.specs.Step.{step, effect}
 use Rattle.moves.specs.Gate.{entitled, admitted}
 use Rattle.moves.specs.Change.{Outcome, made, changed, change_for, change_outcome}
@@ -36,7 +35,7 @@ pub record State (f : File) (row : List ℕ) (base t : Tables) : Type 0 where
   pub results_are : t.results ≡ fresh_results f row ++ drop (length f.lines) base.results
 
 pub verdicts_many : (f : File) (row : List ℕ) → length (fresh_verdicts f row) ≡ length f.lines
-verdicts_many f row = column_length (λ j. j.verdict) f.variables row f.lines
+verdicts_many f row = column_length (λ j. verdict_byte j.verdict) f.variables row f.lines
 
 pub results_many : (f : File) (row : List ℕ) → length (fresh_results f row) ≡ length f.lines
 results_many f row = column_length (λ j. j.result) f.variables row f.lines
@@ -76,13 +75,13 @@ module _ (f : File) (row : List ℕ) (base t : Tables) (s : State f row base t) 
       )
 
   -- the tests are the model's: neither 24 nor 25 arises
-  tests_by : (r : Result (Unit {0})) → entitled f u.lent u.call ≡ r → (r >> (values_fit f lent.values >> (verdicts_fit f lent.verdicts >> index_fits f u.call.index))) ≡ r
-  tests_by (accepted tt) e =
+  tests_by : (r : Reply (Unit {0})) → entitled f u.lent u.call ≡ r → (r >> (values_fit f lent.values >> (verdicts_fit f lent.verdicts >> index_fits f u.call.index))) ≡ r
+  tests_by (Ok tt) e =
       let g = used_lent (entitled_passed f u.lent u.call e) in
       let values = ap (λ (z : Tables). z.values) g in
       let verdicts = ap (λ (z : Tables). z.verdicts) g in
       rw (values, verdicts, unfit_none f.variables row s.fits, none_above f.variables row 0 f.lines, index_fits_lem f u.call.index o.index)
-  tests_by (refused r) e = refl
+  tests_by (Err r) e = refl
 
   tests_alike : admitted f lent u.call ≡ entitled f u.lent u.call
   unfolding admitted
@@ -98,7 +97,7 @@ module _ (f : File) (row : List ℕ) (base t : Tables) (s : State f row base t) 
   whole w = record { reply = w.reply; tables = put_back u.lent w.tables t }
 
   -- accepted
-  made_went : Entitled f u.lent u.call → Went (whole (made f lent u.call)) (modelled f row u (accepted tt))
+  made_went : Entitled f u.lent u.call → Went (whole (made f lent u.call)) (modelled f row u (Ok tt))
   unfolding made
   made_went e =
       let n = length f.variables in
@@ -109,7 +108,7 @@ module _ (f : File) (row : List ℕ) (base t : Tables) (s : State f row base t) 
       let used = used_lent e in
       let new : step f x c (in_use f lent) ≡ fresh_tables f after = ap (step f x c) used ∙ step_fresh f x o.index c row e.variable in
       record {
-        reply_is = ap₂ (λ (a b : Tables). Changed (effect f x c a b)) used new ∙ rw (concerned_naming f x o.index c.variable e.variable);
+        reply_is = ap₂ (λ (a b : Tables). Ok (effect f x c a b)) used new ∙ rw (concerned_naming f x o.index c.variable e.variable);
         state_is = record {
           long = length-set row c.variable c.value ∙ s.long;
           fits = fits_set f.variables row c.variable c.value s.fits (rw s.long e.variable) e.value;
@@ -126,9 +125,9 @@ module _ (f : File) (row : List ℕ) (base t : Tables) (s : State f row base t) 
       }
 
   -- accepted or refused
-  changed_went : (r : Result (Unit {0})) → entitled f u.lent u.call ≡ r → Went (whole (changed f lent u.call r)) (modelled f row u r)
-  changed_went (accepted tt) e = made_went (entitled_passed f u.lent u.call e)
-  changed_went (refused r) e =
+  changed_went : (r : Reply (Unit {0})) → entitled f u.lent u.call ≡ r → Went (whole (changed f lent u.call r)) (modelled f row u r)
+  changed_went (Ok tt) e = made_went (entitled_passed f u.lent u.call e)
+  changed_went (Err r) e =
       let n = length f.variables in
       let m = length f.lines in
       record {
@@ -151,11 +150,11 @@ pub record Ran (f : File) (row : List ℕ) (base : Tables) (us : List Turn) (os 
   pub replies_are : map (λ o. o.reply) os ≡ model_replies f row us
   pub state_is : State f (model_row f row us) base t
 
-module _ (constraint : List ℕ) (f : File) (read : read_file constraint ≡ accepted f) (base t₁ : Tables) (row₁ : List ℕ) (start : State f row₁ base t₁) where
+module _ (constraint : List ℕ) (f : File) (read : read_file constraint ≡ Ok f) (base t₁ : Tables) (row₁ : List ℕ) (start : State f row₁ base t₁) where
   pub run_ran : (us : List Turn) → Each (OfRun f t₁) us → (n : ℕ) (row : List ℕ) (t : Tables) → State f row base t → Ran f row base us (outcomes the_change constraint n t us) (tables_after the_change constraint n t us)
   unfolding outcomes tables_after model_replies model_row
   run_ran [] e n row t s = record { replies_are = refl; state_is = s }
   run_ran (u ∷ us) e n row t s =
       let w : Went f row base t s u (of_state f row₁ row base t₁ t start s u e.0) (turn_outcome change_outcome constraint t u) (model_outcome f row u) = rw read (turn_went f row base t s u (of_state f row₁ row base t₁ t start s u e.0)) in
       let r = run_ran us e.1 (suc n) (model_outcome f row u).row (turn_outcome change_outcome constraint t u).tables w.state_is in
-      record { replies_are = ap₂ (λ (x : ChangeReply) (xs : List ChangeReply). x ∷ xs) w.reply_is r.replies_are; state_is = r.state_is }
+      record { replies_are = ap₂ (λ (x : Reply Effect) (xs : List (Reply Effect)). x ∷ xs) w.reply_is r.replies_are; state_is = r.state_is }

@@ -3,23 +3,22 @@ use Prim.Native.Nat.{ℕ, suc, ◌≤◌, ◌<◌}
 use mathlib.Core.Path.{◌≡◌, refl, ap, ◌∙◌}
 use mathlib.Core.Bool.{Bool}
 use mathlib.Core.List.{List, [], ◌∷◌, ◌++◌}
-use mathlib.Core.Option.{Option}
+use Rattle.std.specs.Prelude.{Option}
 use lib.ListN.{length, get_or, take, drop, set, length-set, take-append-drop}
 use lib.Seq.{length_front, length-take-le, get_or-set_other}
 use Rattle.refusal.specs.declared.Refusal.{Refusal}
-use Rattle.refusal.specs.Result.{Result, accepted, refused}
+use Rattle.refusal.specs.Result.{Reply, Ok, Err}
 use Rattle.refusal.proofs.ResultLaws.{never}
 use Rattle.constraint.specs.File.{File}
 use Rattle.constraint.specs.Read.{read_file}
 use Rattle.constraint.specs.Sound.{Each}
 use Rattle.judge.specs.declared.Judged.{Judged}
-use Rattle.judge.specs.Judge.{column_of}
+use Rattle.judge.specs.Judge.{verdict_byte, column_of}
 use Rattle.judge.specs.InUse.{Tables, row_in_use, column_in_use, Room}
 use Rattle.index.specs.Select.{naming}
 use Rattle.index.specs.Index.{Index}
 use Rattle.index.specs.AnyIndex.{concerned}
 use Rattle.index.proofs.OwnIndexLaws.{concerned_naming}
-use Rattle.moves.specs.declared.ChangeReply.TheVariants.{Refused}
 use Rattle.moves.specs.Step.{renewed, step}
 use Rattle.moves.specs.Gate.{Call, admitted}
 use Rattle.moves.specs.Change.{Outcome, made, changed, change_by, change_outcome}
@@ -59,20 +58,20 @@ module _ (f : File) (t : Tables) (c : Call) where
       record {
         other_values = λ j h. ap (λ (l : List ℕ). get_or l j 0) stored ∙ get_or-set_other t.values variable j c.change.value 0 h;
         values_long = ap length stored ∙ length-set t.values variable c.change.value;
-        verdicts = touches_column (λ j. j.verdict) f c.index variable row t.verdicts room.verdicts;
+        verdicts = touches_column (λ j. verdict_byte j.verdict) f c.index variable row t.verdicts room.verdicts;
         results = touches_column (λ j. j.result) f c.index variable row t.results room.results;
         refused_nothing = λ r e. never (cc e);
       }
 
   -- accepted or refused
-  changed_touches : (r : Result (Unit {0})) → admitted f t c ≡ r → (lines : List Bool) → (variable < length f.variables → concerned f c.index variable ≡ lines) → TouchesOnly variable lines t (changed f t c r)
-  changed_touches (accepted tt) e lines same = let p = admitted_passed f t c e in rw (← same p.is_entitled.variable) (made_touches p)
-  changed_touches (refused r) e lines same = record { other_values = λ j h. refl; values_long = refl; verdicts = record { others = λ j h. refl; long = refl }; results = record { others = λ j h. refl; long = refl }; refused_nothing = λ x q. refl }
+  changed_touches : (r : Reply (Unit {0})) → admitted f t c ≡ r → (lines : List Bool) → (variable < length f.variables → concerned f c.index variable ≡ lines) → TouchesOnly variable lines t (changed f t c r)
+  changed_touches (Ok tt) e lines same = let p = admitted_passed f t c e in rw (← same p.is_entitled.variable) (made_touches p)
+  changed_touches (Err r) e lines same = record { other_values = λ j h. refl; values_long = refl; verdicts = record { others = λ j h. refl; long = refl }; results = record { others = λ j h. refl; long = refl }; refused_nothing = λ x q. refl }
 
 -- ---- a change of any constraint file
-refused_by : (t : Tables) (c : Call) (x : Refusal) (q : Result File) → (change_by q t c).reply ≡ Refused x → (change_by q t c).tables ≡ t
-refused_by t c x (accepted f) e = (changed_touches f t c (admitted f t c) refl (concerned f c.index c.change.variable) (λ h. refl)).refused_nothing x e
-refused_by t c x (refused r) e = refl
+refused_by : (t : Tables) (c : Call) (x : Refusal) (q : Reply File) → (change_by q t c).reply ≡ Err x → (change_by q t c).tables ≡ t
+refused_by t c x (Ok f) e = (changed_touches f t c (admitted f t c) refl (concerned f c.index c.change.variable) (λ h. refl)).refused_nothing x e
+refused_by t c x (Err r) e = refl
 
 pub touches_no_other : TouchesNoOther
 touches_no_other constraint t c f e = rw e (changed_touches f t c (admitted f t c) refl (concerned f c.index c.change.variable) (λ h. refl))
@@ -96,7 +95,7 @@ back_touches i lines n t o k =
     }
 
 -- ---- each turn of a run
-module _ (constraint : List ℕ) (f : File) (read : read_file constraint ≡ accepted f) (t₁ : Tables) where
+module _ (constraint : List ℕ) (f : File) (read : read_file constraint ≡ Ok f) (t₁ : Tables) where
   abbrev OwnTurn : Turn → Tables → Outcome → Type 0
   OwnTurn u = TouchesOnly u.call.change.variable (naming f u.call.change.variable)
 

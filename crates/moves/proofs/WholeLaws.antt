@@ -8,8 +8,8 @@ use lib.Dec.{ltb}
 use lib.ListN.{length, drop}
 use Rattle.refusal.specs.declared.Subject.{Subject}
 use Rattle.refusal.specs.declared.Subject.TheVariants.{Values, Verdicts, Results}
-use Rattle.refusal.specs.Numbers.{too_short}
-use Rattle.refusal.specs.Result.{Result, accepted, refused, refusal}
+use Rattle.refusal.specs.declared.Fault.TheVariants.{TooShort}
+use Rattle.refusal.specs.Result.{Reply, Ok, Err, refusal}
 use Rattle.refusal.proofs.ResultLaws.{never}
 use Rattle.refusal.proofs.RefusesLaws.{Refuses, refuses_then, refuses_ensure, refuses_test}
 use Rattle.constraint.specs.File.{File, edition_of, width_at}
@@ -19,7 +19,6 @@ use Rattle.judge.specs.Judge.{fresh_verdicts, fresh_results, overall_of}
 use Rattle.judge.specs.InUse.{Tables, put_in_use, fresh_tables, Room, room_of}
 use Rattle.judge.proofs.RoomLaws.{room_refuses}
 use Rattle.answer.proofs.FitLaws.{answer_fits, row_fits_answer}
-use Rattle.tables.specs.declared.CheckReply.TheVariants.{Checked}
 use Rattle.tables.specs.Check.{checking, checked}
 use Rattle.tables.proofs.CheckingLaws.{checking_steps, steps_checking}
 use Rattle.tables.proofs.CheckLaws.{tables_filled}
@@ -36,14 +35,14 @@ model_refuses : (f : File) (u : Turn) → Refuses NotOfTables (entitled f u.lent
 unfolding entitled change_fits
 model_refuses f u =
     let c = u.call.change in
-    let short : (s : Subject) → NotOfTables (refusal s too_short 0) = λ s. record { not_24 = λ e. omega arith; not_25 = λ e. omega arith } in
+    let short : (s : Subject) → NotOfTables (refusal s TooShort 0) = λ s. record { not_24 = λ e. (cc e); not_25 = λ e. (cc e) } in
     refuses_then (room_refuses f u.lent (short Values) (short Verdicts) (short Results)) (
-    refuses_ensure (ltb c.variable (length f.variables)) _ (record { not_24 = λ e. omega arith; not_25 = λ e. omega arith }) (
-    refuses_test (ltb c.value (2 ^ width_at f.variables c.variable)) _ (record { not_24 = λ e. omega arith; not_25 = λ e. omega arith })))
+    refuses_ensure (ltb c.variable (length f.variables)) _ (record { not_24 = λ e. (cc e); not_25 = λ e. (cc e) }) (
+    refuses_test (ltb c.value (2 ^ width_at f.variables c.variable)) _ (record { not_24 = λ e. (cc e); not_25 = λ e. (cc e) })))
 
-reply_fits : (f : File) (row : List ℕ) (u : Turn) (r : Result (Unit {0})) → entitled f u.lent u.call ≡ r → HeldFits (modelled f row u r).reply
-reply_fits f row u (accepted tt) e = tt
-reply_fits f row u (refused x) e = (model_refuses f u).holds x e
+reply_fits : (f : File) (row : List ℕ) (u : Turn) (r : Reply (Unit {0})) → entitled f u.lent u.call ≡ r → HeldFits (modelled f row u r).reply
+reply_fits f row u (Ok tt) e = tt
+reply_fits f row u (Err x) e = (model_refuses f u).holds x e
 
 all_fit : (f : File) (row : List ℕ) (us : List Turn) → Each HeldFits (model_replies f row us)
 unfolding model_replies
@@ -53,13 +52,13 @@ all_fit f row (u ∷ us) = (reply_fits f row u (entitled f u.lent u.call) refl, 
 -- ---- the start
 module _ (constraint answer : List ℕ) (t : Tables) (f : File) (row : List ℕ) (t₁ : Tables) (a : AcceptedCheck constraint answer t f row t₁) where
   -- the check is accepted, so it has room
-  checking_is : (r : Result (File × List ℕ)) → checking constraint answer (room_of t) ≡ r → Checked a.overall ≡ (checked t r).reply → checking constraint answer (room_of t) ≡ accepted (f, row)
-  checking_is (accepted (g, other)) e q =
+  checking_is : (r : Reply (File × List ℕ)) → checking constraint answer (room_of t) ≡ r → Ok a.overall ≡ (checked t r).reply → checking constraint answer (room_of t) ≡ Ok (f, row)
+  checking_is (Ok (g, other)) e q =
       let s = checking_steps constraint answer (room_of t) g other e in
-      let z : accepted f ≡ accepted g = sym a.file_is_read ∙ s.file in
+      let z : Ok f ≡ Ok g = sym a.file_is_read ∙ s.file in
       let y : f ≡ g = cc z in
       steps_checking constraint answer (room_of t) f row (record { file = a.file_is_read; answered = a.answer_is_read; has_room = rw y s.has_room })
-  checking_is (refused x) e q = never (cc q)
+  checking_is (Err x) e q = never (cc q)
 
   -- the tables that it left
   left : t₁ ≡ put_in_use f (fresh_tables f row) t

@@ -1,25 +1,20 @@
 -- What the results of this crate's functions mean, in terms of the definitions.
-use Rattle.std.specs.Prelude.{ℕ, ◌+◌, ◌≤◌, ◌<◌, ◌≡◌, Bool, true, cond, List, ◌++◌, eqb, length, get_or, take, drop, set}
-use Rattle.std.proofs.Math.Option.{Option, none, some}
-use Rattle.refusal.specs.Result.{Result, ◌>>◌}
+use Rattle.std.specs.Prelude.{ℕ, ◌+◌, ◌≤◌, ◌<◌, ◌≡◌, Bool, true, cond, List, ◌++◌, eqb, length, get_or, take, drop, set, Option, None, Some}
+use Rattle.refusal.specs.Result.{Reply, ◌>>◌}
 use Rattle.constraint.specs.File.{Variable, File}
 use Rattle.store.specs.Tables.{line_in}
 use Rattle.judge.specs.declared.Judged.{Judged}
-use Rattle.judge.specs.Judge.{judge, fresh_verdicts, fresh_results}
+use Rattle.judge.specs.Judge.{verdict_byte, judge, fresh_verdicts, fresh_results}
 use Rattle.judge.specs.InUse.{values_fit, verdicts_fit}
 use Rattle.index.specs.Select.{selected}
-use Rattle.index.specs.Index.{Index, index_of}
+use Rattle.index.specs.Index.{Index}
 use Rattle.index.specs.AnyIndex.{list_in, list_fits}
 use Rattle.moves.specs.declared.Renewal.{Renewal}
 use Rattle.moves.specs.Step.{Change, renewed, differing}
 use Rattle.moves.specs.Gate.{change_fits}
 
--- an index of these tables, if a change goes through one
-abbrev pub index_if : Bool → List ℕ → List ℕ → Option Index
-index_if through starts lists = cond through (some (index_of starts lists)) none
-
 -- the tests between those of the room and of an index: the call's own numbers and those in the tables fit, 23, 18, 24
-abbrev pub numbers_fit : File → List ℕ → List ℕ → Change → Result (Unit {0})
+abbrev pub numbers_fit : File → List ℕ → List ℕ → Change → Reply (Unit {0})
 numbers_fit f values verdicts c = change_fits f c >> (values_fit f values >> verdicts_fit f verdicts)
 
 -- the columns of the tables of lines
@@ -38,7 +33,7 @@ abbrev pub judged_in : List Variable → List ℕ → List ℕ → List ℕ → 
 judged_in xs row heads bodies k = judge xs row (line_in heads bodies k)
 
 abbrev pub set_line : Columns → ℕ → Judged → Columns
-set_line columns k fresh = columns_of (set columns.verdicts k fresh.verdict) (set columns.results k fresh.result)
+set_line columns k fresh = columns_of (set columns.verdicts k (verdict_byte fresh.verdict)) (set columns.results k fresh.result)
 
 -- whether a verdict became different, as a number
 abbrev pub differs : ℕ → ℕ → ℕ
@@ -48,7 +43,7 @@ differs old new = cond (eqb old new) 0 1
 pub record RenewedIf (test : Bool) (fresh : Judged) (k : ℕ) (old new : Columns) (r : Renewal) : Type 0 where
   pub made : new ≡ cond test (set_line old k fresh) old
   pub counted : r.named ≡ cond test 1 0
-  pub differed : r.altered ≡ cond test (differs (get_or old.verdicts k 0) fresh.verdict) 0
+  pub differed : r.altered ≡ cond test (differs (get_or old.verdicts k 0) (verdict_byte fresh.verdict)) 0
 
 -- a column: of its first m entries those of the selected lines are fresh, and those behind them are as they were
 abbrev pub renewed_front : List Bool → List ℕ → ℕ → List ℕ → List ℕ
@@ -66,3 +61,8 @@ pub record ListFitting (m : ℕ) (x : Index) (i : ℕ) : Type 0 where
   pub rises : get_or x.starts i 0 ≤ get_or x.starts (i + 1) 0
   pub within : get_or x.starts (i + 1) 0 ≤ length x.lists
   pub fits : list_fits m (list_in x i) ≡ true
+
+-- the same of the index, if there is one
+abbrev pub IndexListFitting : ℕ → Option Index → ℕ → Type 0
+IndexListFitting m None i = Unit {0}
+IndexListFitting m (Some x) i = ListFitting m x i

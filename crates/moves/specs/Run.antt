@@ -1,11 +1,9 @@
 -- A run of changes on the first entries of the tables, and demand 3's plain model of it.
-use Rattle.std.specs.Prelude.{ℕ, suc, List, [], ◌∷◌, ◌++◌, take, drop, set}
-use Rattle.std.proofs.Math.Option.{none}
-use Rattle.refusal.specs.Result.{Result, accepted, refused}
+use Rattle.std.specs.Prelude.{ℕ, suc, List, [], ◌∷◌, ◌++◌, take, drop, set, None}
+use Rattle.refusal.specs.Result.{Reply, Ok, Err}
 use Rattle.constraint.specs.File.{File}
 use Rattle.judge.specs.InUse.{Tables, tables_of, fresh_tables, Room}
-use Rattle.moves.specs.declared.ChangeReply.{ChangeReply}
-use Rattle.moves.specs.declared.ChangeReply.TheVariants.{Changed, Refused}
+use Rattle.moves.specs.declared.Effect.{Effect}
 use Rattle.moves.specs.Step.{effect}
 use Rattle.moves.specs.Gate.{Call, entitled}
 use Rattle.moves.specs.Change.{Outcome, change_outcome}
@@ -56,23 +54,23 @@ the_change n = change_outcome
 
 -- the reply, and the row after the turn
 pub record ModelOutcome : Type 0 where
-  pub reply : ChangeReply
+  pub reply : Reply Effect
   pub row : List ℕ
 
 -- "A refused one leaves the row. Any other puts its value in at its variable. It answers the four things above, by the file, the rows before and after and their verdicts"
-abbrev pub modelled : File → List ℕ → Turn → Result (Unit {0}) → ModelOutcome
-modelled f row u (accepted passed) =
+abbrev pub modelled : File → List ℕ → Turn → Reply (Unit {0}) → ModelOutcome
+modelled f row u (Ok passed) =
     let c = u.call.change in
     let after = set row c.variable c.value in
-    record { reply = Changed (effect f none c (fresh_tables f row) (fresh_tables f after)); row = after }
-modelled f row u (refused r) = record { reply = Refused r; row = row }
+    record { reply = Ok (effect f None c (fresh_tables f row) (fresh_tables f after)); row = after }
+modelled f row u (Err r) = record { reply = Err r; row = row }
 
 -- one turn: "refused 21 .., then 23 .., then 18"; "24 can't arise", nor can 25, where no index or the file's own is used
 abbrev pub model_outcome : File → List ℕ → Turn → ModelOutcome
 model_outcome f row u = modelled f row u (entitled f u.lent u.call)
 
 -- the replies to all turns, and the row after them
-unfoldable pub model_replies : File → List ℕ → List Turn → List ChangeReply
+unfoldable pub model_replies : File → List ℕ → List Turn → List (Reply Effect)
 model_replies f row [] = []
 model_replies f row (u ∷ us) = let o = model_outcome f row u in o.reply ∷ model_replies f o.row us
 

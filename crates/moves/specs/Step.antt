@@ -1,7 +1,6 @@
 -- One value put in, and the lines concerned renewed: the core of a change.
-use Rattle.std.specs.Prelude.{ℕ, Bool, cond, not, eqb, get_or, set}
+use Rattle.std.specs.Prelude.{ℕ, Bool, cond, not, eqb, get_or, set, Option}
 use mathlib.Core.List.{List, [], ◌∷◌, zip_with}
-use Rattle.std.proofs.Math.Option.{Option}
 use Rattle.edition.specs.Word.{word_bits}
 use Rattle.refusal.specs.Lists.{how_many}
 use Rattle.arithmetic.specs.Bits.{differing_bits}

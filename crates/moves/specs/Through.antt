@@ -1,8 +1,7 @@
 -- What is claimed of changes through an index.
-use Rattle.std.specs.Prelude.{ℕ, ◌+◌, ◌<◌, ◌≡◌, true, false, List, length, get_or, set}
-use Rattle.std.proofs.Math.Option.{none, some}
+use Rattle.std.specs.Prelude.{ℕ, ◌+◌, ◌<◌, ◌≡◌, true, false, List, length, get_or, set, None, Some}
 use Rattle.refusal.specs.Lists.{is_one_of}
-use Rattle.refusal.specs.Result.{accepted}
+use Rattle.refusal.specs.Result.{Ok}
 use Rattle.constraint.specs.File.{File}
 use Rattle.constraint.specs.Read.{read_file}
 use Rattle.judge.specs.Judge.{fresh_verdicts, fresh_results}
@@ -11,7 +10,6 @@ use Rattle.index.specs.Index.{Index}
 use Rattle.index.specs.AnyIndex.{list_in}
 use Rattle.index.specs.Claims.{IsOwn}
 use Rattle.moves.specs.declared.Effect.{Effect}
-use Rattle.moves.specs.declared.ChangeReply.TheVariants.{Changed}
 use Rattle.moves.specs.Gate.{changing}
 use Rattle.moves.specs.Change.{change_outcome}
 
@@ -19,9 +17,9 @@ use Rattle.moves.specs.Change.{change_outcome}
 abbrev pub OwnIndexSame : Type 0
 OwnIndexSame =
     (constraint : List ℕ) (t : Tables) (i v : ℕ) (f : File) (x : Index)
-    → read_file constraint ≡ accepted f
+    → read_file constraint ≡ Ok f
     → IsOwn f x
-    → change_outcome constraint t (changing i v (some x)) ≡ change_outcome constraint t (changing i v none)
+    → change_outcome constraint t (changing i v (Some x)) ≡ change_outcome constraint t (changing i v None)
 
 -- a column of a table of lines: the entries of the lines listed are fresh, all others as they were
 pub record JustLines (f : File) (list fresh old new : List ℕ) : Type 0 where
@@ -39,5 +37,5 @@ pub record JustListed (f : File) (x : Index) (i v : ℕ) (t : Tables) (e : Effec
 abbrev pub RenewsJustListed : Type 0
 RenewsJustListed =
     (constraint : List ℕ) (t : Tables) (i v : ℕ) (f : File) (x : Index) (e : Effect)
-    → read_file constraint ≡ accepted f
-    → let o = change_outcome constraint t (changing i v (some x)) in o.reply ≡ Changed e → JustListed f x i v t e o.tables
+    → read_file constraint ≡ Ok f
+    → let o = change_outcome constraint t (changing i v (Some x)) in o.reply ≡ Ok e → JustListed f x i v t e o.tables

@@ -1,8 +1,8 @@
 -- Demand 3: one claim about a whole run, and what follows from it.
 use Rattle.std.specs.Prelude.{ℕ, suc, ◌≤◌, min, ◌≡◌, Bool, false, List, map, length, get_or}
 use Rattle.refusal.specs.declared.Refusal.{Refusal}
-use Rattle.refusal.specs.Numbers.{held_does_not_fit, wrong_index}
-use Rattle.refusal.specs.Result.{accepted}
+use Rattle.refusal.specs.declared.Fault.TheVariants.{HeldDoesNotFit, WrongIndex}
+use Rattle.refusal.specs.Result.{Reply, Ok, Err}
 use Rattle.constraint.specs.File.{File}
 use Rattle.constraint.specs.Read.{read_file}
 use Rattle.constraint.specs.Sound.{Each}
@@ -10,23 +10,21 @@ use Rattle.judge.specs.declared.Overall.{Overall}
 use Rattle.judge.specs.Judge.{fresh_verdicts, overall_of}
 use Rattle.judge.specs.InUse.{Tables, column_in_use, put_in_use, fresh_tables, Room}
 use Rattle.answer.specs.Read.{read_answer}
-use Rattle.tables.specs.declared.CheckReply.TheVariants.{Checked}
 use Rattle.tables.specs.Check.{CheckOutcome, check_outcome}
 use Rattle.index.specs.Select.{naming}
 use Rattle.index.specs.AnyIndex.{concerned}
 use Rattle.index.specs.Claims.{OwnOrNone}
-use Rattle.moves.specs.declared.ChangeReply.{ChangeReply}
-use Rattle.moves.specs.declared.ChangeReply.TheVariants.{Changed, Refused}
+use Rattle.moves.specs.declared.Effect.{Effect}
 use Rattle.moves.specs.Gate.{Call}
 use Rattle.moves.specs.Change.{Outcome, change_outcome}
 use Rattle.moves.specs.Run.{Turn, ChangeCall, turn_outcome, outcomes, tables_after, EachTurn, the_change, model_replies, model_row}
 
 -- an accepted check: the file and the row of values that it read, and the tables that it left
 pub record AcceptedCheck (constraint answer : List ℕ) (t : Tables) (f : File) (row : List ℕ) (t₁ : Tables) : Type 0 where
-  pub file_is_read : read_file constraint ≡ accepted f
-  pub answer_is_read : read_answer f.variables answer ≡ accepted row
+  pub file_is_read : read_file constraint ≡ Ok f
+  pub answer_is_read : read_answer f.variables answer ≡ Ok row
   pub overall : Overall
-  pub call : ◌≡◌ {A = CheckOutcome} (record { reply = Checked overall; tables = t₁ }) (check_outcome constraint answer t)
+  pub call : ◌≡◌ {A = CheckOutcome} (record { reply = Ok overall; tables = t₁ }) (check_outcome constraint answer t)
 
 -- no more entries are lent than there are
 pub record LentWithin (lent : Room) (t : Tables) : Type 0 where
@@ -41,13 +39,13 @@ pub record OfRun (f : File) (t : Tables) (u : Turn) : Type 0 where
 
 -- a refusal of neither what the tables hold nor an index
 pub record NotOfTables (r : Refusal) : Type 0 where
-  pub not_24 : r.number ≡ held_does_not_fit → ⊥
-  pub not_25 : r.number ≡ wrong_index → ⊥
+  pub not_24 : r.fault ≡ HeldDoesNotFit → ⊥
+  pub not_25 : r.fault ≡ WrongIndex → ⊥
 
 -- a reply that is neither 24 nor 25
-abbrev pub HeldFits : ChangeReply → Type 0
-HeldFits (Changed e) = Unit {0}
-HeldFits (Refused r) = NotOfTables r
+abbrev pub HeldFits : Reply Effect → Type 0
+HeldFits (Ok e) = Unit {0}
+HeldFits (Err r) = NotOfTables r
 
 -- a column of a table of lines, before and after: but for some lines it is as it was
 pub record TouchesOnlyLines (lines : List Bool) (old new : List ℕ) : Type 0 where
@@ -64,7 +62,7 @@ pub record TouchesOnly (i : ℕ) (lines : List Bool) (t : Tables) (o : Outcome) 
   -- nor a result
   pub results : TouchesOnlyLines lines t.results o.tables.results
   -- "A refused one touches nothing"
-  pub refused_nothing : (r : Refusal) → o.reply ≡ Refused r → o.tables ≡ t
+  pub refused_nothing : (r : Refusal) → o.reply ≡ Err r → o.tables ≡ t
 
 -- what a run answered and left, by the model: `t` is the tables before the check, `t₁` those after it
 pub record AsModel (calls : ℕ → ChangeCall) (constraint : List ℕ) (f : File) (row : List ℕ) (t t₁ : Tables) (us : List Turn) : Type 0 where
@@ -109,9 +107,9 @@ AsFreshCheck =
     (constraint answer : List ℕ) (t : Tables) (f : File) (row : List ℕ) (t₁ : Tables) (us : List Turn) (answer' : List ℕ)
     → AcceptedCheck constraint answer t f row t₁
     → Each (OfRun f t₁) us
-    → read_answer f.variables answer' ≡ accepted (model_row f row us)
+    → read_answer f.variables answer' ≡ Ok (model_row f row us)
     → let t' = tables_after the_change constraint 0 t₁ us in
-    ◌≡◌ {A = CheckOutcome} (record { reply = Checked (overall_of (column_in_use f t'.verdicts)); tables = t' }) (check_outcome constraint answer' t')
+    ◌≡◌ {A = CheckOutcome} (record { reply = Ok (overall_of (column_in_use f t'.verdicts)); tables = t' }) (check_outcome constraint answer' t')
 
 -- the first entries that are asked for, but no more than there are; and a turn as it is lent them
 abbrev pub lent_of : Room → Tables → Room
@@ -130,12 +128,12 @@ FrontIsTurn =
 abbrev pub TouchesNoOther : Type 0
 TouchesNoOther =
     (constraint : List ℕ) (t : Tables) (c : Call) (f : File)
-    → read_file constraint ≡ accepted f
+    → read_file constraint ≡ Ok f
     → TouchesOnly c.change.variable (concerned f c.index c.change.variable) t (change_outcome constraint t c)
 
 -- a change that is refused, of any constraint file, on any tables, touches nothing
 abbrev pub RefusedTouchesNothing : Type 0
 RefusedTouchesNothing =
     (constraint : List ℕ) (t : Tables) (c : Call) (r : Refusal)
-    → (change_outcome constraint t c).reply ≡ Refused r
+    → (change_outcome constraint t c).reply ≡ Err r
     → (change_outcome constraint t c).tables ≡ t

@@ -1,45 +1,43 @@
 // The tests of a change.
-ghost use Rattle.std.specs.Prelude.{◌≡◌, List, ℕ, ◌≤◌, ltb, length};
+ghost use Rattle.std.specs.Prelude.{◌≡◌, List, ℕ, ◌≤◌, ltb, length, option_map};
 ghost use Rattle.edition.specs.Edition.{max_variables, max_lines};
 ghost use Rattle.refusal.specs.Lists.{first_from};
-ghost use Rattle.refusal.specs.Result.{gate_result};
 ghost use Rattle.constraint.specs.declared.Line.{Line};
-ghost use Rattle.store.specs.Tables.{place, variables_in};
+ghost use Rattle.store.specs.Tables.{variables_in};
 ghost use Rattle.judge.specs.Judge.{verdict_disregarded};
 ghost use Rattle.judge.specs.InUse.{tables_of};
-ghost use Rattle.index.specs.Index.{index_of};
-ghost use Rattle.index.specs.AnyIndex.{index_fits_for};
+ghost use Rattle.index.specs.Index.{lent_index};
 ghost use Rattle.index.specs.Internal.{file_of};
 ghost use Rattle.moves.specs.Gate.{changing, admitted};
-ghost use Rattle.moves.specs.Internal.{index_if, numbers_fit};
+ghost use Rattle.moves.specs.Internal.{numbers_fit};
 
 use arithmetic::Word;
 use arithmetic::rules::fits;
 use edition::Edition;
-use index::IndexFault;
-use index::fitting::index_fault;
-use judge::Judged;
+use index::LentIndex;
+use index::fitting::index_fits;
+use judge::Verdict;
 use judge::in_use::{first_unfit, tables_room};
-use refusal::{Gate, Refusal, Subject, bar};
-use store::Found;
+use refusal::{Fault, Refusal, Subject};
 use store::variables::width_of;
 
 // The first byte that is no verdict.
-fn first_above(verdicts: &[u8]) -> Found
-    ensures { place result ≡ first_from (ltb verdict_disregarded) 0 verdicts.now }
+fn first_above(verdicts: &[u8]) -> Option<usize>
+    ensures { result ≡ first_from (ltb verdict_disregarded) 0 verdicts.now }
 {
+    let last = Verdict::Disregarded.byte();
     let mut k = 0;
     while k < verdicts.len() {
-        if Judged::DISREGARDED < verdicts[k] {
-            return Found::At(k);
+        if last < verdicts[k] {
+            return Some(k);
         }
         k += 1;
     }
-    Found::Nowhere
+    None
 }
 
 // The tests of a change's own numbers, variable i of n and value v, and of those in tables that have room; there are m lines.
-fn gate_numbers(
+fn numbers_fit(
     variables: &[u64; Edition::VARIABLES],
     n: usize,
     m: usize,
@@ -47,67 +45,48 @@ fn gate_numbers(
     verdicts: &[u8],
     i: usize,
     v: u64,
-) -> Gate
+) -> Result<(), Refusal>
     requires { (n ≤ max_variables) × (m ≤ max_lines) × (n ≤ length values.now) × (m ≤ length verdicts.now) }
-    ensures { (file : List ℕ) (ls : List Line) → length ls ≡ m → gate_result result ≡ numbers_fit (file_of (variables_in file variables.now n) ls) values.now verdicts.now (record { variable = i; value = v }) }
+    ensures { (file : List ℕ) (ls : List Line) → length ls ≡ m → result ≡ numbers_fit (file_of (variables_in file variables.now n) ls) values.now verdicts.now (record { variable = i; value = v }) }
 {
     if n <= i {
-        return bar(Refusal::NO_SUCH_VARIABLE, Subject::Call, 0);
+        return Err(Refusal::of(Subject::Call, Fault::NoSuchVariable, 0));
     }
     let word = Word {
         width: width_of(variables, n, i),
         value: v,
     };
     if !fits(word) {
-        return bar(Refusal::VALUE_DOES_NOT_FIT, Subject::Call, 0);
+        return Err(Refusal::of(Subject::Call, Fault::ValueDoesNotFit, 0));
     }
-    match first_unfit(variables, n, values) {
-        Found::At(k) => bar(Refusal::HELD_DOES_NOT_FIT, Subject::Values, k),
-        Found::Nowhere => match first_above(&verdicts[..m]) {
-            Found::At(k) => bar(Refusal::HELD_DOES_NOT_FIT, Subject::Verdicts, k),
-            Found::Nowhere => Gate::Pass,
-        },
+    if let Some(k) = first_unfit(variables, n, values) {
+        return Err(Refusal::of(Subject::Values, Fault::HeldDoesNotFit, k));
     }
+    if let Some(k) = first_above(&verdicts[..m]) {
+        return Err(Refusal::of(Subject::Verdicts, Fault::HeldDoesNotFit, k));
+    }
+    Ok(())
 }
 
-// The tests of an index.
-fn gate_index(starts: &[u32], lists: &[u32], n: usize, m: usize) -> Gate
-    ensures { gate_result result ≡ index_fits_for n m (index_of starts.now lists.now) }
-{
-    match index_fault(starts, lists, n, m) {
-        IndexFault::NoFault => Gate::Pass,
-        IndexFault::OfStarts => bar(Refusal::WRONG_INDEX, Subject::Starts, 0),
-        IndexFault::OfLists => bar(Refusal::WRONG_INDEX, Subject::Lists, 0),
-    }
-}
-
-// All tests of a change; `through` says whether it goes through the index.
-pub(crate) fn gate(
+// All tests of a change, through the index where there is one.
+pub(crate) fn admitted(
     variables: &[u64; Edition::VARIABLES],
     n: usize,
     m: usize,
     values: &[u64],
     verdicts: &[u8],
     results: &[u64],
-    through: bool,
-    starts: &[u32],
-    lists: &[u32],
+    index: Option<LentIndex<'_>>,
     i: usize,
     v: u64,
-) -> Gate
+) -> Result<(), Refusal>
     requires { (n ≤ max_variables) × (m ≤ max_lines) }
-    ensures { (file : List ℕ) (ls : List Line) → length ls ≡ m → gate_result result ≡ admitted (file_of (variables_in file variables.now n) ls) (tables_of values.now verdicts.now results.now) (changing i v (index_if through starts.now lists.now)) }
+    ensures { (file : List ℕ) (ls : List Line) → length ls ≡ m → result ≡ admitted (file_of (variables_in file variables.now n) ls) (tables_of values.now verdicts.now results.now) (changing i v (option_map lent_index index.entry)) }
 {
-    match tables_room(n, m, values.len(), verdicts.len(), results.len()) {
-        Gate::Bar(r) => Gate::Bar(r),
-        Gate::Pass => match gate_numbers(variables, n, m, values, verdicts, i, v) {
-            Gate::Bar(r) => Gate::Bar(r),
-            Gate::Pass => {
-                if through {
-                    return gate_index(starts, lists, n, m);
-                }
-                Gate::Pass
-            }
-        },
+    tables_room(n, m, values.len(), verdicts.len(), results.len())?;
+    numbers_fit(variables, n, m, values, verdicts, i, v)?;
+    match index {
+        Some(lent) => index_fits(lent, n, m),
+        None => Ok(()),
     }
 }

@@ -2,7 +2,6 @@
 #![tactic(auto)]
 
 use judge::Overall;
-use refusal::Refusal;
 
 mod admission;
 pub mod change;
@@ -17,12 +16,6 @@ pub struct Effect {
     pub named: usize,
     pub altered: usize,
     pub bits: u64,
-}
-
-#[derive(Clone, Copy)]
-pub enum ChangeReply {
-    Changed(Effect),
-    Refused(Refusal),
 }
 
 // How many lines were renewed, and how many verdicts became different.

@@ -1,16 +1,18 @@
 // Verdicts and results made anew: of the lines that name a variable, or of those in a list.
-ghost use Rattle.std.specs.Prelude.{◌≡◌, true, List, ℕ, ◌≤◌, ◌<◌, length, get_or};
+ghost use Rattle.std.specs.Prelude.{◌≡◌, true, List, ℕ, ◌≤◌, ◌<◌, length, get_or, option_map};
 ghost use Rattle.edition.specs.Edition.{max_lines};
 ghost use Rattle.constraint.specs.File.{Variable};
 ghost use Rattle.store.specs.Tables.{table_heads, table_bodies, line_in, lines_in, HeadsFit, AllHeadsFit};
+ghost use Rattle.judge.specs.Judge.{verdict_byte};
 ghost use Rattle.judge.specs.Fitting.{Judgeable};
 ghost use Rattle.index.specs.Select.{naming, names as namesIn};
-ghost use Rattle.index.specs.Index.{index_of};
+ghost use Rattle.index.specs.Index.{lent_index};
 ghost use Rattle.index.specs.AnyIndex.{numbered, concerned, list_fits};
 ghost use Rattle.index.specs.Internal.{file_of};
-ghost use Rattle.moves.specs.Internal.{index_if, columns_of, fresh_columns, judged_in, set_line, differs, RenewedIf, Renewed, ListFitting};
+ghost use Rattle.moves.specs.Internal.{columns_of, fresh_columns, judged_in, set_line, differs, RenewedIf, Renewed, IndexListFitting};
 
 use super::Renewal;
+use index::LentIndex;
 use index::naming::names;
 use judge::lines::judge_line;
 use store::lines::{TABLE_BODIES, TABLE_HEADS};
@@ -32,11 +34,11 @@ fn renew_line<'a>(
     k: usize,
 ) -> usize
     requires { (k < length verdicts.old) × (k < length results.old) × (length heads.now ≡ table_heads) × (length bodies.now ≡ table_bodies) × (k < max_lines) × Judgeable row.now heads.now bodies.now k }
-    ensures { (xs : List Variable) → HeadsFit xs heads.now bodies.now k → let fresh = judged_in xs row.now heads.now bodies.now k in (result ≡ differs (get_or verdicts.old k 0) fresh.verdict) × (columns_of verdicts.new results.new ≡ set_line (columns_of verdicts.old results.old) k fresh) }
+    ensures { (xs : List Variable) → HeadsFit xs heads.now bodies.now k → let fresh = judged_in xs row.now heads.now bodies.now k in (result ≡ differs (get_or verdicts.old k 0) (verdict_byte fresh.verdict)) × (columns_of verdicts.new results.new ≡ set_line (columns_of verdicts.old results.old) k fresh) }
 {
     let old = verdicts[k];
     let judged = judge_line(row, heads, bodies, k);
-    let new = judged.verdict;
+    let new = judged.verdict.byte();
     verdicts[k] = new;
     results[k] = judged.result;
     differ(old, new)
@@ -118,7 +120,7 @@ fn renew_listed<'a>(
     }
 }
 
-// Renews those of the lines that a change of variable i concerns: those that the index lists where it goes through one, else those that name i.
+// Renews those of the lines that a change of variable i concerns: those that the index lists where there is one, else those that name i.
 pub(crate) fn renew_concerned<'a>(
     heads: &'a [u8; TABLE_HEADS],
     bodies: &'a [u64; TABLE_BODIES],
@@ -126,18 +128,19 @@ pub(crate) fn renew_concerned<'a>(
     row: &[u64],
     verdicts: &mut [u8],
     results: &mut [u64],
-    through: bool,
-    starts: &[u32],
-    lists: &[u32],
+    index: Option<LentIndex<'_>>,
     i: usize,
 ) -> Renewal
-    requires { (m ≤ max_lines) × (length heads.now ≡ table_heads) × (length bodies.now ≡ table_bodies) × (m ≤ length verdicts.old) × (m ≤ length results.old) × (through ≡ true → ListFitting m (index_of starts.now lists.now) i) × ((k : ℕ) → k < m → Judgeable row.now heads.now bodies.now k) }
-    ensures { (xs : List Variable) → AllHeadsFit xs heads.now bodies.now m → Renewed (concerned (file_of xs (lines_in heads.now bodies.now m)) (index_if through starts.now lists.now) i) (fresh_columns (file_of xs (lines_in heads.now bodies.now m)) row.now) m (columns_of verdicts.old results.old) (columns_of verdicts.new results.new) result }
+    requires { (m ≤ max_lines) × (length heads.now ≡ table_heads) × (length bodies.now ≡ table_bodies) × (m ≤ length verdicts.old) × (m ≤ length results.old) × IndexListFitting m (option_map lent_index index) i × ((k : ℕ) → k < m → Judgeable row.now heads.now bodies.now k) }
+    ensures { (xs : List Variable) → AllHeadsFit xs heads.now bodies.now m → Renewed (concerned (file_of xs (lines_in heads.now bodies.now m)) (option_map lent_index index.entry) i) (fresh_columns (file_of xs (lines_in heads.now bodies.now m)) row.now) m (columns_of verdicts.old results.old) (columns_of verdicts.new results.new) result }
 {
-    if through {
-        let from = starts[i] as usize;
-        let to = starts[i + 1] as usize;
-        return renew_listed(heads, bodies, m, row, verdicts, results, &lists[from..to]);
+    match index {
+        Some(LentIndex { starts, lists }) => {
+            let from = starts[i] as usize;
+            let to = starts[i + 1] as usize;
+            let list = &lists[from..to];
+            renew_listed(heads, bodies, m, row, verdicts, results, list)
+        }
+        None => renew(heads, bodies, m, row, verdicts, results, i),
     }
-    renew(heads, bodies, m, row, verdicts, results, i)
 }

@@ -8,8 +8,8 @@ use lib.ListN.{length, get_or, take, drop}
 use lib.Seq.{drop-cons, get_or-take, length-take-le}
 use Rattle.refusal.specs.declared.Refusal.{Refusal}
 use Rattle.refusal.specs.declared.Subject.TheVariants.{Constraint}
-use Rattle.refusal.specs.Numbers.{misspelt}
-use Rattle.refusal.specs.Result.{Result, accepted, refused, refusal}
+use Rattle.refusal.specs.declared.Fault.TheVariants.{Misspelt}
+use Rattle.refusal.specs.Result.{Reply, Ok, Err, refusal}
 use Rattle.text.specs.Bytes.{is_letter}
 use Rattle.text.specs.Spelling.{is_name}
 use Rattle.text.specs.Lines.{TextLine, Token, tokens_from}
@@ -26,12 +26,12 @@ use Rattle.operand.specs.Internal.{taken_from}
 use Rattle.operand.proofs.ConstantLaws.{letter_misspelt}
 
 -- what a reading says of the token, and of the tokens behind it
-module _ (read : Token → Result Operand) (line : List ℕ) (start stop : ℕ) (h : stop ≡ past (is_of Solid) line start) where
-  pub taken_refused : (r : Refusal) → refused r ≡ read (token_at (take stop line) start) → refused r ≡ taken_from read line start
+module _ (read : Token → Reply Operand) (line : List ℕ) (start stop : ℕ) (h : stop ≡ past (is_of Solid) line start) where
+  pub taken_refused : (r : Refusal) → Err r ≡ read (token_at (take stop line) start) → Err r ≡ taken_from read line start
   unfolding taken_from
   taken_refused r e = rw (← h, ← e)
 
-  pub taken_read : (o : Operand) → accepted o ≡ read (token_at (take stop line) start) → accepted (o, tokens_from true stop (drop stop line)) ≡ taken_from read line start
+  pub taken_read : (o : Operand) → Ok o ≡ read (token_at (take stop line) start) → Ok (o, tokens_from true stop (drop stop line)) ≡ taken_from read line start
   unfolding taken_from
   taken_read o e = rw (← h, ← e)
 
@@ -56,13 +56,13 @@ module _ (xs : List Variable) (line : List ℕ) (start : ℕ) (h : start < lengt
       name_read : read_variable xs (token_at (take stop line) start) ≡ read_operand xs (token_at (take stop line) start)
       name_read = operand_name xs (token_at (take stop line) start) (name_whole line start h a stop hs)
 
-      pub named_refused : (r : Refusal) → refused r ≡ read_variable xs (token_at (take stop line) start) → refused r ≡ taken_from (read_operand xs) line start
+      pub named_refused : (r : Refusal) → Err r ≡ read_variable xs (token_at (take stop line) start) → Err r ≡ taken_from (read_operand xs) line start
       named_refused r q = taken_refused (read_operand xs) line start stop (name_stops line start h a stop hs e) r (q ∙ name_read)
 
-      pub named_read : (o : Operand) → accepted o ≡ read_variable xs (token_at (take stop line) start) → accepted (o, tokens_from true stop (drop stop line)) ≡ taken_from (read_operand xs) line start
+      pub named_read : (o : Operand) → Ok o ≡ read_variable xs (token_at (take stop line) start) → Ok (o, tokens_from true stop (drop stop line)) ≡ taken_from (read_operand xs) line start
       named_read o q = taken_read (read_operand xs) line start stop (name_stops line start h a stop hs e) o (q ∙ name_read)
 
-    pub named_broken : ends_token (drop stop line) ≡ false → refused (refusal Constraint misspelt start) ≡ taken_from (read_operand xs) line start
+    pub named_broken : ends_token (drop stop line) ≡ false → Err (refusal Constraint Misspelt start) ≡ taken_from (read_operand xs) line start
     named_broken e =
         let end = past (is_of Solid) line start in
         let t = token_at (take end line) start in

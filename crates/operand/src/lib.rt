@@ -1,21 +1,19 @@
 // Reading an operand: a variable by its name, or a constant.
 #![tactic(auto)]
 
-use refusal::Refusal;
-
 pub mod constants;
 pub mod variables;
 
-// The head and the body of an operand, or the number of its token's refusal.
+// An operand as the tables hold it.
 #[derive(Clone, Copy)]
-pub enum OperandRead {
-    Good(u8, u64),
-    Bad(u8),
+pub struct Stored {
+    pub head: u8,
+    pub body: u64,
 }
 
-// The head and the body of the next operand, and where the tokens behind it start.
+// The next operand, and where the tokens behind it start.
 #[derive(Clone, Copy)]
-pub enum Taken {
-    Got(u8, u64, usize),
-    Halt(Refusal),
+pub struct Taken {
+    pub operand: Stored,
+    pub stop: usize,
 }

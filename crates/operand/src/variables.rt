@@ -1,5 +1,5 @@
 // Variables as operands.
-ghost use Rattle.std.specs.Prelude.{◌≡◌, true, ◌≤◌, ◌<◌, length, get_or, drop};
+ghost use Rattle.std.specs.Prelude.{◌≡◌, true, ◌≤◌, ◌<◌, length, get_or, drop, IfOk};
 ghost use Rattle.edition.specs.Edition.{max_variables};
 ghost use Rattle.text.specs.Bytes.{is_letter};
 ghost use Rattle.text.specs.Scan.{token_at};
@@ -7,13 +7,11 @@ ghost use Rattle.constraint.specs.Read.{read_variable, read_operand};
 ghost use Rattle.store.specs.Hash.{hash_of};
 ghost use Rattle.store.specs.Names.{Searchable};
 ghost use Rattle.store.specs.Tables.{variables_in};
-ghost use Rattle.operand.specs.Internal.{taken_from, taken_result, TakenWithin, TakenFits, operand_result, ReadFits};
+ghost use Rattle.operand.specs.Internal.{taken_from, taken_result, TakenWithin, TakenFits, operand_result, StoredFits};
 
-use super::{OperandRead, Taken};
-use constraint::refusals::refusal;
+use super::{Stored, Taken};
 use edition::Edition;
-use refusal::Refusal;
-use store::Found;
+use refusal::{Fault, Refusal, Subject};
 use store::hashing::name_at;
 use store::lines::variable_head;
 use store::names::find;
@@ -28,17 +26,18 @@ fn variable(
     text: &[u8],
     at: usize,
     hash: u32,
-) -> OperandRead
+) -> Result<Stored, Fault>
     requires { (at ≤ length text.now) × (n ≤ max_variables) × Searchable file.now variables.now n × (hash ≡ hash_of (drop at text.now)) }
-    ensures { (operand_result (token_at text.now at) result ≡ read_variable (variables_in file.now variables.now n) (token_at text.now at)) × ReadFits (variables_in file.now variables.now n) result }
+    ensures { (operand_result (token_at text.now at) result ≡ read_variable (variables_in file.now variables.now n) (token_at text.now at)) × IfOk result (StoredFits (variables_in file.now variables.now n)) }
 {
     if Edition::NAME_BYTES < text.len() - at {
-        return OperandRead::Bad(Refusal::OVER_LIMIT);
+        return Err(Fault::OverLimit);
     }
-    match find(file, variables, n, text, at, hash) {
-        Found::At(i) => { OperandRead::Good(variable_head(width_of(variables, n, i)), i as u64) }
-        Found::Nowhere => OperandRead::Bad(Refusal::NOT_DECLARED),
-    }
+    let i = find(file, variables, n, text, at, hash).ok_or(Fault::NotDeclared)?;
+    Ok(Stored {
+        head: variable_head(width_of(variables, n, i)),
+        body: i as u64,
+    })
 }
 
 // The operand whose token starts at `at`, with a letter.
@@ -48,18 +47,17 @@ pub fn named(
     n: usize,
     line: &[u8],
     at: usize,
-) -> Taken
+) -> Result<Taken, Refusal>
     requires { (at < length line.now) × (n ≤ max_variables) × (is_letter (get_or line.now at 0) ≡ true) × Searchable file.now variables.now n }
-    ensures { (taken_result line.now result ≡ taken_from (read_operand (variables_in file.now variables.now n)) line.now at) × TakenWithin line.now result × TakenFits (variables_in file.now variables.now n) result }
+    ensures { (taken_result line.now result ≡ taken_from (read_operand (variables_in file.now variables.now n)) line.now at) × IfOk result (TakenWithin line.now) × IfOk result (TakenFits (variables_in file.now variables.now n)) }
 {
     let name = name_at(line, at);
     let stop = name.stop;
-    if token_ends(line, stop) {
-        match variable(file, variables, n, &line[..stop], at, name.hash) {
-            OperandRead::Bad(number) => Taken::Halt(refusal(number, at)),
-            OperandRead::Good(head, body) => Taken::Got(head, body, stop),
-        }
-    } else {
-        Taken::Halt(refusal(Refusal::MISSPELT, at))
+    if !token_ends(line, stop) {
+        return Err(Refusal::of(Subject::Constraint, Fault::Misspelt, at));
     }
+    let operand = variable(file, variables, n, &line[..stop], at, name.hash).map_err(
+        |fault| Refusal::of(Subject::Constraint, fault, at),
+    )?;
+    Ok(Taken { operand, stop })
 }

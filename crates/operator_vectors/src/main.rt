@@ -9,7 +9,7 @@ ghost use Rattle.std.specs.Prelude.{◌+◌, ◌≤◌};
 
 use arithmetic::Word;
 use arithmetic::numbering::operator_numbered;
-use operator::Applied;
+use refusal::Refusal;
 use std::io::{self, Read, Write};
 
 // The bytes of a line, with its line end.
@@ -28,11 +28,11 @@ fn word(line: &[u8; LINE], at: usize) -> Word
     }
 }
 
-fn print_applied<W: Write>(output: &mut W, reply: Applied) -> io::Result<()> {
+fn print_applied<W: Write>(output: &mut W, reply: Result<Option<u64>, Refusal>) -> io::Result<()> {
     match reply {
-        Applied::Value(value) => write!(output, "{value}")?,
-        Applied::ZeroDivisor => output.write_all(b"zero divisor")?,
-        Applied::Refused(refusal) => reporting::print_refusal(output, refusal)?,
+        Ok(Some(value)) => write!(output, "{value}")?,
+        Ok(None) => output.write_all(b"zero divisor")?,
+        Err(refusal) => reporting::print_refusal(output, refusal)?,
     }
     output.write_all(b"\n")
 }

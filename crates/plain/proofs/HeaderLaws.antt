@@ -4,13 +4,14 @@ use Prim.Native.Char.{code}
 use mathlib.Core.Path.{◌≡◌, refl, sym, ap, subst, ◌∙◌}
 use mathlib.Core.Bool.{true, false, not, ◌&&◌}
 use mathlib.Core.List.{List, [], ◌∷◌, ◌++◌, flat_map, append-nil, append_assoc, nil≢cons, cons≢nil, head-eq_of_cons-eq, tail-eq_of_cons-eq}
-use mathlib.Core.Option.{Option, none, some}
+use Rattle.std.specs.Prelude.{Option, None, Some}
 use native.Mathlib.Omega.{arith}
 use lib.ListN.{length, length-append}
 use Rattle.edition.specs.declared.Edition.{Edition}
 use Rattle.edition.specs.Edition.{max_variables, max_lines}
-use Rattle.refusal.specs.Lists.{every, is_there}
-use Rattle.refusal.specs.Result.{Result, accepted}
+use Rattle.std.specs.Prelude.{is_some}
+use Rattle.refusal.specs.Lists.{every}
+use Rattle.refusal.specs.Result.{Reply, Ok}
 use Rattle.refusal.proofs.ResultLaws.{never}
 use Rattle.refusal.proofs.BoolLaws.{and_true}
 use Rattle.refusal.proofs.ListLaws.{not_there}
@@ -32,14 +33,14 @@ use Rattle.plain.proofs.OthersLaws.{read_all, line_first, line_then, version_ste
 -- ---- a thing that is said once at most: from a to b by lines of one token, none or one
 pub data Once {A : Type 0} (parse : List ℕ → Option A) (a : Option A) (ls : List (List (List ℕ))) (b : Option A) : Type 0 where
   kept : ls ≡ [] → a ≡ b → Once parse a ls b
-  set : (w : List ℕ) (x : A) → a ≡ none → ls ≡ (w ∷ []) ∷ [] → parse w ≡ some x → b ≡ some x → Once parse a ls b
+  set : (w : List ℕ) (x : A) → a ≡ None → ls ≡ (w ∷ []) ∷ [] → parse w ≡ Some x → b ≡ Some x → Once parse a ls b
 
 module _ {A : Type 0} (parse : List ℕ → Option A) (b : Option A) where
-  once_first : (a : Option A) (w : List ℕ) (x : A) (ws : List (List ℕ)) (ls : List (List (List ℕ))) → a ≡ none → ws ≡ w ∷ [] → parse w ≡ some x → Once parse (some x) ls b → Once parse a (ws ∷ ls) b
+  once_first : (a : Option A) (w : List ℕ) (x : A) (ws : List (List ℕ)) (ls : List (List (List ℕ))) → a ≡ None → ws ≡ w ∷ [] → parse w ≡ Some x → Once parse (Some x) ls b → Once parse a (ws ∷ ls) b
   once_first a w x ws ls n o p (kept e k) = set w x n (cc (o, e)) p (sym k)
   once_first a w x ws ls n o p (set v y m e q k) = never (cc m)
 
-  once_then : (a : Option A) (ws : List (List ℕ)) (ls : List (List (List ℕ))) → Once parse a (ws ∷ ls) b → (w : List ℕ) × (x : A) × (a ≡ none) × (ws ≡ w ∷ []) × (parse w ≡ some x) × Once parse (some x) ls b
+  once_then : (a : Option A) (ws : List (List ℕ)) (ls : List (List (List ℕ))) → Once parse a (ws ∷ ls) b → (w : List ℕ) × (x : A) × (a ≡ None) × (ws ≡ w ∷ []) × (parse w ≡ Some x) × Once parse (Some x) ls b
   once_then a ws ls (kept e k) = absurd (cons≢nil e)
   once_then a ws ls (set w x n e p k) = (w, x, n, head-eq_of_cons-eq e, p, kept (tail-eq_of_cons-eq e) (sym k))
 
@@ -98,11 +99,11 @@ header_end a g e h = go h.variables h.declared h.all
 
 -- ---- a line of each letter in front of a header
 module _ (a g : File) (l : TextLine) (hs : List Said) where
-  header_version : (w : List ℕ) (e : Edition) → a.version ≡ none → token_bytes (arguments l) ≡ w ∷ [] → version_of w ≡ some e → Header (with_version a e) g hs → Header a g (saying (code "v") l ∷ hs)
+  header_version : (w : List ℕ) (e : Edition) → a.version ≡ None → token_bytes (arguments l) ≡ w ∷ [] → version_of w ≡ Some e → Header (with_version a e) g hs → Header a g (saying (code "v") l ∷ hs)
   unfolding every is_header lines_with tokens_with flat_map
   header_version w e n o p h = record { letters = h.letters; version = once_first version_of g.version a.version w e (token_bytes (arguments l)) (lines_with (code "v") hs) n o p h.version; expectation = h.expectation; some_declared = h.some_declared; variables = h.variables; declared = h.declared; all = h.all; before = h.before }
 
-  header_expectation : (w : List ℕ) (n : ℕ) → a.expectation ≡ none → token_bytes (arguments l) ≡ w ∷ [] → expectation_of w ≡ some n → Header (with_expectation a n) g hs → Header a g (saying (code "e") l ∷ hs)
+  header_expectation : (w : List ℕ) (n : ℕ) → a.expectation ≡ None → token_bytes (arguments l) ≡ w ∷ [] → expectation_of w ≡ Some n → Header (with_expectation a n) g hs → Header a g (saying (code "e") l ∷ hs)
   unfolding every is_header lines_with tokens_with flat_map
   header_expectation w n m o p h = record { letters = h.letters; version = h.version; expectation = once_first expectation_of g.expectation a.expectation w n (token_bytes (arguments l)) (lines_with (code "e") hs) m o p h.expectation; some_declared = h.some_declared; variables = h.variables; declared = h.declared; all = h.all; before = h.before }
 
@@ -124,30 +125,30 @@ module _ (a b f : File) (s : Said) (ss : List Said) (w : Whole b f ss) where
   whole_more h = record { middle = w.middle; header = s ∷ w.header; others = w.others; in_order = ap (λ (us : List Said). s ∷ us) w.in_order; head = h w.head; tail = w.tail }
 
 -- what is read
-pub whole_are : (ls : List TextLine) (a f : File) → a.lines ≡ [] → read_all a ls ≡ accepted f → Whole a f (flat_map said_by ls)
+pub whole_are : (ls : List TextLine) (a f : File) → a.lines ≡ [] → read_all a ls ≡ Ok f → Whole a f (flat_map said_by ls)
 unfolding read_lines flat_map
 whole_are [] a f z e = subst (λ (g : File). Whole a g []) (cc e) (record { middle = a; header = []; others = []; in_order = refl; head = header_none a z; tail = others_none a })
 whole_are (l ∷ ls) a f z e = go (line_kind l) (whole_are ls)
   where
-    go : LineKind l → ((b g : File) → b.lines ≡ [] → read_all b ls ≡ accepted g → Whole b g (flat_map said_by ls)) → Whole a f (flat_map said_by (l ∷ ls))
-    go (skipped k) ih = let p = line_then l ls a f k e in rw k.said_is (ih a f z (subst (λ (b : File). read_all b ls ≡ accepted f) (let q : p.0 ≡ a = cc p.1 in q) p.2))
+    go : LineKind l → ((b g : File) → b.lines ≡ [] → read_all b ls ≡ Ok g → Whole b g (flat_map said_by ls)) → Whole a f (flat_map said_by (l ∷ ls))
+    go (skipped k) ih = let p = line_then l ls a f k e in rw k.said_is (ih a f z (subst (λ (b : File). read_all b ls ≡ Ok f) (let q : p.0 ≡ a = cc p.1 in q) p.2))
     go (version k) ih =
         let p = line_then l ls a f k e in
         let q = version_step a p.0 l p.1 in
-        let n = not_there a.version (and_true (in_header a) (not (is_there a.version)) q.is_allowed_lem).1 in
-        let w = ih (with_version a q.value) f z (subst (λ (b : File). read_all b ls ≡ accepted f) q.file_is p.2) in
+        let n = not_there a.version (and_true (in_header a) (not (is_some a.version)) q.is_allowed_lem).1 in
+        let w = ih (with_version a q.value) f z (subst (λ (b : File). read_all b ls ≡ Ok f) q.file_is p.2) in
         rw k.said_is (whole_more a (with_version a q.value) f (saying (code "v") l) (flat_map said_by ls) w (header_version a w.middle l w.header q.token q.value n q.one q.parsed))
     go (expectation k) ih =
         let p = line_then l ls a f k e in
         let q = expectation_step a p.0 l p.1 in
-        let n = not_there a.expectation (and_true (in_header a) (not (is_there a.expectation)) q.is_allowed_lem).1 in
-        let w = ih (with_expectation a q.value) f z (subst (λ (b : File). read_all b ls ≡ accepted f) q.file_is p.2) in
+        let n = not_there a.expectation (and_true (in_header a) (not (is_some a.expectation)) q.is_allowed_lem).1 in
+        let w = ih (with_expectation a q.value) f z (subst (λ (b : File). read_all b ls ≡ Ok f) q.file_is p.2) in
         rw k.said_is (whole_more a (with_expectation a q.value) f (saying (code "e") l) (flat_map said_by ls) w (header_expectation a w.middle l w.header q.token q.value n q.one q.parsed))
     go (declarations k) ih =
         let p = line_then l ls a f k e in
         let q = (declarations_is a l).holds p.0 p.1 in
         let xs = q.1.variables in
-        let w = ih (with_variables a (a.variables ++ xs)) f z (subst (λ (b : File). read_all b ls ≡ accepted f) q.1.file_is p.2) in
+        let w = ih (with_variables a (a.variables ++ xs)) f z (subst (λ (b : File). read_all b ls ≡ Ok f) q.1.file_is p.2) in
         rw k.said_is (whole_more a (with_variables a (a.variables ++ xs)) f (saying (code "d") l) (flat_map said_by ls) w (header_declarations a w.middle l w.header xs q.0 q.1.spelt))
     go (statement form k) ih =
         let q = statement_then form l ls a f k e in
@@ -173,7 +174,7 @@ before_lines : (a : File) → a.lines ≡ [] → in_header a ≡ true
 unfolding in_header
 before_lines a z = rw z
 
-allowed_once : {A : Type 0} (a : File) (o : Option A) → a.lines ≡ [] → o ≡ none → (in_header a && not (is_there o)) ≡ true
+allowed_once : {A : Type 0} (a : File) (o : Option A) → a.lines ≡ [] → o ≡ None → (in_header a && not (is_some o)) ≡ true
 allowed_once a o z n = rw (before_lines a z, n)
 
 -- the variables of a header's end are what 01 asks of them
@@ -183,9 +184,9 @@ pub record Fine (xs : List Variable) : Type 0 where
   pub few : length xs ≤ max_variables
 
 -- the first line is read, and the header goes on from there
-record Goes (read : File → Result File) (a g : File) (hs : List Said) : Type 0 where
+record Goes (read : File → Reply File) (a g : File) (hs : List Said) : Type 0 where
   next : File
-  read_is : read a ≡ accepted next
+  read_is : read a ≡ Ok next
   before : next.lines ≡ []
   later : Header next g hs
 
@@ -196,7 +197,7 @@ module _ (a g : File) (l : TextLine) (hs : List Said) (z : a.lines ≡ []) where
       let p = once_then version_of g.version a.version (token_bytes (arguments l)) (lines_with (code "v") hs) h.version in
       record {
         next = with_version a p.1;
-        read_is = single_again (in_header a && not (is_there a.version)) version_of _ (with_version a) l p.0 p.1 (allowed_once a a.version z p.2) p.3 p.4;
+        read_is = single_again (in_header a && not (is_some a.version)) version_of _ (with_version a) l p.0 p.1 (allowed_once a a.version z p.2) p.3 p.4;
         before = z;
         later = record { letters = h.letters; version = p.5; expectation = h.expectation; some_declared = h.some_declared; variables = h.variables; declared = h.declared; all = h.all; before = h.before };
       }
@@ -207,7 +208,7 @@ module _ (a g : File) (l : TextLine) (hs : List Said) (z : a.lines ≡ []) where
       let p = once_then expectation_of g.expectation a.expectation (token_bytes (arguments l)) (lines_with (code "e") hs) h.expectation in
       record {
         next = with_expectation a p.1;
-        read_is = single_again (in_header a && not (is_there a.expectation)) expectation_of _ (with_expectation a) l p.0 p.1 (allowed_once a a.expectation z p.2) p.3 p.4;
+        read_is = single_again (in_header a && not (is_some a.expectation)) expectation_of _ (with_expectation a) l p.0 p.1 (allowed_once a a.expectation z p.2) p.3 p.4;
         before = z;
         later = record { letters = h.letters; version = h.version; expectation = p.5; some_declared = h.some_declared; variables = h.variables; declared = h.declared; all = h.all; before = h.before };
       }
@@ -244,10 +245,10 @@ no_kind l = refl
 
 module _ (g f : File) (others : List Said) (fine : Fine g.variables) (tail : Others g f others) (room : length f.lines ≤ max_lines) where
   -- without a header
-  only_others : (ls : List TextLine) (a : File) → Each IsAllowed ls → a.lines ≡ [] → flat_map said_by ls ≡ others → Header a g [] → read_all a ls ≡ accepted f
-  only_others ls a h z e k = subst (λ (b : File). read_all b ls ≡ accepted f) (sym (header_end a g z k)) (others_again ls g f h (rw e tail) (fine.sound (edition_of g)) fine.distinct room)
+  only_others : (ls : List TextLine) (a : File) → Each IsAllowed ls → a.lines ≡ [] → flat_map said_by ls ≡ others → Header a g [] → read_all a ls ≡ Ok f
+  only_others ls a h z e k = subst (λ (b : File). read_all b ls ≡ Ok f) (sym (header_end a g z k)) (others_again ls g f h (rw e tail) (fine.sound (edition_of g)) fine.distinct room)
 
-  pub whole_again : (ls : List TextLine) (a : File) (hs : List Said) → Each IsAllowed ls → a.lines ≡ [] → flat_map said_by ls ≡ hs ++ others → Header a g hs → read_all a ls ≡ accepted f
+  pub whole_again : (ls : List TextLine) (a : File) (hs : List Said) → Each IsAllowed ls → a.lines ≡ [] → flat_map said_by ls ≡ hs ++ others → Header a g hs → read_all a ls ≡ Ok f
   unfolding flat_map
   whole_again [] a [] h z e k = only_others [] a h z e k
   whole_again [] a (s ∷ hs) h z e k = absurd (nil≢cons e)
@@ -255,15 +256,15 @@ module _ (g f : File) (others : List Said) (fine : Fine g.variables) (tail : Oth
   whole_again (l ∷ ls) a (s ∷ hs) h z e k = go (line_kind l) (whole_again ls)
     where
       -- the line is the first of the header
-      at_head : {says : Said} {read : File → Result File} → IsLine l (says ∷ []) read → Header a g (says ∷ hs) × (flat_map said_by ls ≡ hs ++ others)
+      at_head : {says : Said} {read : File → Reply File} → IsLine l (says ∷ []) read → Header a g (says ∷ hs) × (flat_map said_by ls ≡ hs ++ others)
       at_head {says = says} m =
           let q : says ∷ flat_map said_by ls ≡ s ∷ (hs ++ others) = rw m.said_is at e in
           (subst (λ u. Header a g (u ∷ hs)) (sym (head-eq_of_cons-eq q)) k, tail-eq_of_cons-eq q)
 
-      goes : {says : Said} {read : File → Result File} → IsLine l (says ∷ []) read → Goes read a g hs → ((b : File) (us : List Said) → Each IsAllowed ls → b.lines ≡ [] → flat_map said_by ls ≡ us ++ others → Header b g us → read_all b ls ≡ accepted f) → read_all a (l ∷ ls) ≡ accepted f
+      goes : {says : Said} {read : File → Reply File} → IsLine l (says ∷ []) read → Goes read a g hs → ((b : File) (us : List Said) → Each IsAllowed ls → b.lines ≡ [] → flat_map said_by ls ≡ us ++ others → Header b g us → read_all b ls ≡ Ok f) → read_all a (l ∷ ls) ≡ Ok f
       goes m p ih = line_first l ls h.0 a m ∙ rw p.read_is (ih p.next hs h.1 p.before (at_head m).1 p.later)
 
-      go : LineKind l → ((b : File) (us : List Said) → Each IsAllowed ls → b.lines ≡ [] → flat_map said_by ls ≡ us ++ others → Header b g us → read_all b ls ≡ accepted f) → read_all a (l ∷ ls) ≡ accepted f
+      go : LineKind l → ((b : File) (us : List Said) → Each IsAllowed ls → b.lines ≡ [] → flat_map said_by ls ≡ us ++ others → Header b g us → read_all b ls ≡ Ok f) → read_all a (l ∷ ls) ≡ Ok f
       go (skipped m) ih = line_first l ls h.0 a m ∙ ih a (s ∷ hs) h.1 z (rw m.said_is at e) k
       go (version m) ih = goes m (version_goes a g l hs z (at_head m).0) ih
       go (expectation m) ih = goes m (expectation_goes a g l hs z (at_head m).0) ih

@@ -5,9 +5,9 @@ use mathlib.Core.Bool.{Bool, true, false, cond}
 use mathlib.Core.List.{List, [], ◌∷◌}
 use lib.Dec.{eqb}
 use lib.ListN.{get_or}
-use Rattle.refusal.specs.Numbers.{unknown_line}
+use Rattle.refusal.specs.declared.Fault.TheVariants.{UnknownLine}
 use Rattle.refusal.specs.Lists.{every}
-use Rattle.refusal.specs.Result.{Result, accepted, refused}
+use Rattle.refusal.specs.Result.{Reply, Ok, Err}
 use Rattle.text.specs.Bytes.{is_space}
 use Rattle.text.specs.Lines.{TextLine, leads}
 use Rattle.constraint.specs.declared.Form.{Form}
@@ -18,17 +18,17 @@ use Rattle.plain.specs.Says.{Said, leading_letter, is_skipped, tokens_behind, sa
 use Rattle.plain.proofs.LineLaws.{form_letter, saying}
 
 -- a line says this; and so it is read, once its bytes are allowed
-pub record IsLine (l : TextLine) (says : List Said) (read : File → Result File) : Type 0 where
+pub record IsLine (l : TextLine) (says : List Said) (read : File → Reply File) : Type 0 where
   pub said_is : said_by l ≡ says
-  pub read_is : (a : File) → cond (every is_space l.bytes) (accepted a) (read_line a l) ≡ read a
+  pub read_is : (a : File) → cond (every is_space l.bytes) (Ok a) (read_line a l) ≡ read a
 
 pub data LineKind (l : TextLine) : Type 0 where
-  skipped : IsLine l [] accepted → LineKind l
+  skipped : IsLine l [] Ok → LineKind l
   version : IsLine l (saying (code "v") l ∷ []) (λ a. read_version a l) → LineKind l
   expectation : IsLine l (saying (code "e") l ∷ []) (λ a. read_expectation a l) → LineKind l
   declarations : IsLine l (saying (code "d") l ∷ []) (λ a. read_declarations a l) → LineKind l
   statement : (form : Form) → IsLine l (saying (form_letter form) l ∷ []) (λ a. add_line a (read_statement form a l)) → LineKind l
-  other : IsLine l (saying 0 l ∷ []) (λ a. refused (at_constraint_line l unknown_line)) → LineKind l
+  other : IsLine l (saying 0 l ∷ []) (λ a. Err (at_constraint_line l UnknownLine)) → LineKind l
 
 -- every line is of one kind
 pub line_kind : (l : TextLine) → LineKind l

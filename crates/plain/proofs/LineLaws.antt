@@ -4,7 +4,7 @@ use Prim.Native.Char.{code}
 use mathlib.Core.Path.{◌≡◌, refl, sym, ap, subst, ◌∙◌}
 use mathlib.Core.Bool.{Bool, true}
 use mathlib.Core.List.{List, [], ◌∷◌, ◌++◌, append-nil}
-use mathlib.Core.Option.{Option, some}
+use Rattle.std.specs.Prelude.{Option, Some}
 use native.Mathlib.Omega.{arith}
 use lib.Dec.{ltb}
 use lib.ListN.{length, length-append, length-map}
@@ -12,8 +12,9 @@ use lib.Seq.{append_snoc}
 use borrow.Author.Tests.{lt-ltb}
 use Rattle.edition.specs.declared.Edition.{Edition}
 use Rattle.edition.specs.Edition.{max_variables, max_lines}
+use Rattle.refusal.specs.declared.Fault.{Fault}
 use Rattle.refusal.specs.declared.Subject.TheVariants.{Constraint}
-use Rattle.refusal.specs.Result.{accepted}
+use Rattle.refusal.specs.Result.{Ok}
 use Rattle.refusal.proofs.ResultLaws.{Yields, yields_accepted, yields_bind, yields_ensure, yields_given, yields_also}
 use Rattle.arithmetic.specs.Rules.{arity, max_operands}
 use Rattle.text.specs.Lines.{TextLine, Token, arguments}
@@ -44,10 +45,10 @@ pub record SingleIs {A : Type 0} (allowed : Bool) (parse : List ℕ → Option A
   pub token : List ℕ
   pub value : A
   pub one : ws ≡ token ∷ []
-  pub parsed : parse token ≡ some value
+  pub parsed : parse token ≡ Some value
   pub file_is : b ≡ add value
 
-module _ {A : Type 0} (allowed : Bool) (parse : List ℕ → Option A) (wrong : ℕ) (add : A → File) (l : TextLine) where
+module _ {A : Type 0} (allowed : Bool) (parse : List ℕ → Option A) (wrong : Fault) (add : A → File) (l : TextLine) where
   pub single_is : Yields (SingleIs allowed parse add (token_bytes (arguments l))) (read_single allowed parse wrong add l)
   single_is = single_yields allowed parse wrong add l λ t v h q k. record { is_allowed_lem = h; token = t.bytes; value = v; one = ap token_bytes q; parsed = k; file_is = refl }
 
@@ -72,7 +73,7 @@ declarations_is a l =
     let n : 1 ≤ length (token_bytes (p.0 ∷ p.1)) = omega arith in
     yields_also (λ b k. (rw q n, rw q k)) (declare_all_is (p.0 ∷ p.1) a)
 
-declare_all_again : (ts : List Token) (a : File) (xs : List Variable) → Pairwise SpellsVariable (token_bytes ts) xs → Each (SoundVariable (edition_of a)) xs → Distinct (a.variables ++ xs) → length (a.variables ++ xs) ≤ max_variables → declare_all a ts ≡ accepted (with_variables a (a.variables ++ xs))
+declare_all_again : (ts : List Token) (a : File) (xs : List Variable) → Pairwise SpellsVariable (token_bytes ts) xs → Each (SoundVariable (edition_of a)) xs → Distinct (a.variables ++ xs) → length (a.variables ++ xs) ≤ max_variables → declare_all a ts ≡ Ok (with_variables a (a.variables ++ xs))
 unfolding declare_all
 declare_all_again [] a [] p s d h = rw append-nil
 declare_all_again [] a (x ∷ xs) p s d h = absurd p
@@ -82,11 +83,11 @@ declare_all_again (t ∷ ts) a (x ∷ xs) p s d h =
     rw (declare_again (edition_of a) a.variables x t p.0 s.0 (named_new x a.variables xs d) (omega (arith, length-append a.variables (x ∷ xs))))
     (declare_all_again ts (with_variable a x) xs p.1 s.1 (rw z d) (rw z h) ∙ rw z)
 
-pub declarations_again : (a : File) (l : TextLine) (xs : List Variable) → in_header a ≡ true → 1 ≤ length (token_bytes (arguments l)) → Pairwise SpellsVariable (token_bytes (arguments l)) xs → Each (SoundVariable (edition_of a)) xs → Distinct (a.variables ++ xs) → length (a.variables ++ xs) ≤ max_variables → read_declarations a l ≡ accepted (with_variables a (a.variables ++ xs))
+pub declarations_again : (a : File) (l : TextLine) (xs : List Variable) → in_header a ≡ true → 1 ≤ length (token_bytes (arguments l)) → Pairwise SpellsVariable (token_bytes (arguments l)) xs → Each (SoundVariable (edition_of a)) xs → Distinct (a.variables ++ xs) → length (a.variables ++ xs) ≤ max_variables → read_declarations a l ≡ Ok (with_variables a (a.variables ++ xs))
 unfolding read_declarations
 declarations_again a l xs e n p s d h = go (arguments l) refl n p
   where
-    go : (ts : List Token) → arguments l ≡ ts → 1 ≤ length (token_bytes ts) → Pairwise SpellsVariable (token_bytes ts) xs → read_declarations a l ≡ accepted (with_variables a (a.variables ++ xs))
+    go : (ts : List Token) → arguments l ≡ ts → 1 ≤ length (token_bytes ts) → Pairwise SpellsVariable (token_bytes ts) xs → read_declarations a l ≡ Ok (with_variables a (a.variables ++ xs))
     go [] q n p = absurd (omega arith)
     go (t ∷ ts) q n p = rw (e, q) (declare_all_again (t ∷ ts) a xs p s d h)
 
@@ -136,11 +137,11 @@ absent_packed xs [] h = refl
 absent_packed xs (o ∷ os) h = rw (h.0, absent_packed xs os h.1)
 
 module _ (e : Edition) (xs : List Variable) (sound : Each (SoundVariable e) xs) (distinct : Distinct xs) (l : TextLine) where
-  next_again : (o : Operand) (t : Token) (ts : List Token) → SpellsOperand xs t.bytes o → next_operand xs l (t ∷ ts) ≡ accepted (o, ts)
+  next_again : (o : Operand) (t : Token) (ts : List Token) → SpellsOperand xs t.bytes o → next_operand xs l (t ∷ ts) ≡ Ok (o, ts)
   unfolding next_operand
   next_again o t ts h = rw (operand_again e xs sound distinct o t h)
 
-  operands_again : (os : List Operand) (ts : List Token) → SpellsOperands xs (token_bytes ts) os → read_operands xs l (length ts) ts ≡ accepted (packed os, [])
+  operands_again : (os : List Operand) (ts : List Token) → SpellsOperands xs (token_bytes ts) os → read_operands xs l (length ts) ts ≡ Ok (packed os, [])
   unfolding read_operands
   operands_again [] [] h = refl
   operands_again [] (t ∷ ts) h = absurd h
@@ -170,13 +171,13 @@ operation_is f l output ts =
       },
     )
 
-operation_again : (f : File) (l : TextLine) → Each (SoundVariable (edition_of f)) f.variables → Distinct f.variables → (line : Line) (ts : List Token) → SpellsOperation (edition_of f) f.variables (token_bytes ts) line → read_operation f l line.output ts ≡ accepted line
+operation_again : (f : File) (l : TextLine) → Each (SoundVariable (edition_of f)) f.variables → Distinct f.variables → (line : Line) (ts : List Token) → SpellsOperation (edition_of f) f.variables (token_bytes ts) line → read_operation f l line.output ts ≡ Ok line
 unfolding read_operation
 operation_again f l sound distinct line ts h =
     let q = first_token ts h.operator_token h.operand_tokens h.are in
     let n : length q.1 ≡ arity line.operator = sym (length-map q.1 (λ t. t.bytes)) ∙ ap length q.4 ∙ h.count in
     let s : SpellsOperands f.variables (token_bytes q.1) (three line.operands) = rw q.4 h.operands_spelt in
-    let r : read_operands f.variables l (arity line.operator) q.1 ≡ accepted (line.operands, []) = subst (λ k. read_operands f.variables l k q.1 ≡ accepted (line.operands, [])) n (operands_again (edition_of f) f.variables sound distinct l (three line.operands) q.1 s) in
+    let r : read_operands f.variables l (arity line.operator) q.1 ≡ Ok (line.operands, []) = subst (λ k. read_operands f.variables l k q.1 ≡ Ok (line.operands, [])) n (operands_again (edition_of f) f.variables sound distinct l (three line.operands) q.1 s) in
     rw (q.2, q.3, operator_again (edition_of f) h.operator_token line.operator h.operator_spelt, r, h.type_rules)
 
 -- ---- a `c` or `p` line
@@ -198,11 +199,11 @@ statement_is Predicate f l =
     yields_also (λ line k. predicate refl k.0 k.1) (operation_is f l Absent (arguments l))
 
 module _ (f : File) (l : TextLine) (sound : Each (SoundVariable (edition_of f)) f.variables) (distinct : Distinct f.variables) (room : length f.lines < max_lines) (line : Line) where
-  pub statement_again : (form : Form) → SpellsLine (edition_of f) f.variables (saying (form_letter form) l) line → read_statement form f l ≡ accepted line
+  pub statement_again : (form : Form) → SpellsLine (edition_of f) f.variables (saying (form_letter form) l) line → read_statement form f l ≡ Ok line
   unfolding read_statement next_output
   statement_again WithOutput (with_output output others e w o h) =
       let q = first_token (arguments l) output others w in
-      let n : next_operand f.variables l (arguments l) ≡ accepted (line.output, q.1) = ap (next_operand f.variables l) q.2 ∙ next_again (edition_of f) f.variables sound distinct l line.output q.0 q.1 (rw q.3 o) in
+      let n : next_operand f.variables l (arguments l) ≡ Ok (line.output, q.1) = ap (next_operand f.variables l) q.2 ∙ next_again (edition_of f) f.variables sound distinct l line.output q.0 q.1 (rw q.3 o) in
       rw (lt-ltb (length f.lines) max_lines room, n) (operation_again f l sound distinct line q.1 (rw q.4 h))
   statement_again WithOutput (predicate e o h) = absurd (omega arith)
   statement_again Predicate (with_output output others e w o h) = absurd (omega arith)

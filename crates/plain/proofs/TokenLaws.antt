@@ -4,13 +4,13 @@ use Prim.Native.Char.{code}
 use mathlib.Core.Path.{◌≡◌, refl, sym, ap, ◌∙◌}
 use mathlib.Core.Bool.{Bool, true, false, cond}
 use mathlib.Core.List.{List, [], ◌∷◌, ◌++◌, append_assoc}
-use mathlib.Core.Option.{none, some}
+use Rattle.std.specs.Prelude.{None, Some}
 use native.Mathlib.Omega.{arith}
 use lib.ListN.{length, drop}
 use borrow.Author.Tests.{ltb-true}
 use Rattle.edition.specs.declared.Edition.{Edition}
 use Rattle.edition.specs.Edition.{max_variables, is_width}
-use Rattle.refusal.specs.Result.{accepted}
+use Rattle.refusal.specs.Result.{Ok}
 use Rattle.refusal.specs.SubjectWords.{ascii}
 use Rattle.refusal.proofs.ResultLaws.{never, Yields}
 use Rattle.arithmetic.specs.declared.Word.{Word}
@@ -56,32 +56,32 @@ module _ (d : List ℕ) (k : ℕ) (h : SpellsWidth d k) where
   width_again = rw h.makes (width_test k h.width)
 
 -- ---- the header's tokens
-pub version_is : (w : List ℕ) (e : Edition) → version_of w ≡ some e → SpellsVersion w e
+pub version_is : (w : List ℕ) (e : Edition) → version_of w ≡ Some e → SpellsVersion w e
 version_is w e q =
     let p = version_parts w e q in
     let minor = behind (code ".") w in
     record { major = up_to (code ".") w; minor = minor; spelt = parts_join (code ".") w (numeral_parts max_version_digits minor p.minor).0; major_digits = p.major; minor_digits = p.minor; known = p.found }
 
-pub version_again : (w : List ℕ) (e : Edition) → SpellsVersion w e → version_of w ≡ some e
+pub version_again : (w : List ℕ) (e : Edition) → SpellsVersion w e → version_of w ≡ Some e
 unfolding version_of is_digit
 version_again w e h =
     let c = digits_without (code ".") refl h.major (numeral_parts max_version_digits h.major h.major_digits).1 in
     rw (h.spelt, up_to_join (code ".") h.minor h.major c, behind_join (code ".") h.minor h.major c, h.major_digits, h.minor_digits) h.known
 
-pub expectation_is : (w : List ℕ) (n : ℕ) → expectation_of w ≡ some n → SaysExpectation ((w ∷ []) ∷ []) (some n)
+pub expectation_is : (w : List ℕ) (n : ℕ) → expectation_of w ≡ Some n → SaysExpectation ((w ∷ []) ∷ []) (Some n)
 unfolding expectation_of
 expectation_is w n e = go (same (ascii "0") w) refl (same (ascii "1") w) refl e
   where
-    go : (a : Bool) → same (ascii "0") w ≡ a → (b : Bool) → same (ascii "1") w ≡ b → cond a (some 0) (cond b (some 1) none) ≡ some n → SaysExpectation ((w ∷ []) ∷ []) (some n)
+    go : (a : Bool) → same (ascii "0") w ≡ a → (b : Bool) → same (ascii "1") w ≡ b → cond a (Some 0) (cond b (Some 1) None) ≡ Some n → SaysExpectation ((w ∷ []) ∷ []) (Some n)
     go true p b q k = says_0 (ap (λ (s : List ℕ). (s ∷ []) ∷ []) (sym (same_true _ w p))) (sym k)
     go false p true q k = says_1 (ap (λ (s : List ℕ). (s ∷ []) ∷ []) (sym (same_true _ w q))) (sym k)
     go false p false q k = never (cc k)
 
-pub zero_again : expectation_of (ascii "0") ≡ some 0
+pub zero_again : expectation_of (ascii "0") ≡ Some 0
 unfolding expectation_of same
 zero_again = refl
 
-pub one_again : expectation_of (ascii "1") ≡ some 1
+pub one_again : expectation_of (ascii "1") ≡ Some 1
 unfolding expectation_of same
 one_again = refl
 
@@ -91,7 +91,7 @@ declare_is e xs t =
     let type = behind (code ":") t.bytes in
     declare_yields t xs e λ _ k w _ _ _ _. record { width_digits = drop 1 type; spelt = typed_is t.bytes k w; width = (type_is type k w).1 }
 
-pub declare_again : (e : Edition) (xs : List Variable) (x : Variable) (t : Token) → SpellsVariable t.bytes x → SoundVariable e x → variable_named x.name xs ≡ none → length xs < max_variables → declare e xs t ≡ accepted x
+pub declare_again : (e : Edition) (xs : List Variable) (x : Variable) (t : Token) → SpellsVariable t.bytes x → SoundVariable e x → variable_named x.name xs ≡ None → length xs < max_variables → declare e xs t ≡ Ok x
 declare_again e xs x t q s d h =
     let k = q.width_digits in
     declare_spelt t x.name k (q.spelt ∙ typed_join x.name k) (type_again k x.width q.width) (width_again k x.width q.width) e xs s.spelt s.short s.free d h ∙ rw q.width.makes
@@ -105,12 +105,12 @@ operand_is xs t =
     (λ i e. (variable_within t.bytes xs i e, sym (named_is t.bytes xs i e)))
     (λ n k w b. record { value_digits = number; width_digits = drop 1 type; spelt = typed_is t.bytes k w; numeral = n; width = (type_is type k w).1; below = ltb-true (decimal number) number_bound b; value = refl })
 
-constant_again : (xs : List Variable) (w : Word) (t : Token) → SpellsConstant t.bytes w → read_operand xs t ≡ accepted (Const w)
+constant_again : (xs : List Variable) (w : Word) (t : Token) → SpellsConstant t.bytes w → read_operand xs t ≡ Ok (Const w)
 constant_again xs w t q =
     let k = q.width_digits in
     constant_spelt t q.value_digits k (q.spelt ∙ typed_join q.value_digits k) (type_again k w.width q.width) (width_again k w.width q.width) xs q.numeral q.below ∙ rw (q.width.makes, ← q.value)
 
-pub operand_again : (e : Edition) (xs : List Variable) → Each (SoundVariable e) xs → Distinct xs → (o : Operand) (t : Token) → SpellsOperand xs t.bytes o → read_operand xs t ≡ accepted o
+pub operand_again : (e : Edition) (xs : List Variable) → Each (SoundVariable e) xs → Distinct xs → (o : Operand) (t : Token) → SpellsOperand xs t.bytes o → read_operand xs t ≡ Ok o
 operand_again e xs sound distinct Absent t h = absurd h
 operand_again e xs sound distinct (Var i) t h = variable_spelt e xs sound distinct i h.0 t h.1
 operand_again e xs sound distinct (Const w) t h = constant_again xs w t h

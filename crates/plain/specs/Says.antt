@@ -3,7 +3,7 @@ use Rattle.std.specs.Prelude.{ℕ, ◌%◌, ◌^◌, ◌≤◌, ◌<◌, ◌≡�
 use Prim.Native.Char.{code}
 use Prim.Native.String.{String}
 use mathlib.Core.List.{List, [], ◌∷◌, ◌++◌, map, flat_map}
-use Rattle.std.proofs.Math.Option.{Option, none, some}
+use Rattle.std.specs.Prelude.{Option, None, Some}
 use Rattle.edition.specs.declared.Edition.{Edition}
 use Rattle.edition.specs.Edition.{edition_numbered, max_file_bytes, max_variables, max_lines}
 use Rattle.refusal.specs.Lists.{every}
@@ -33,7 +33,7 @@ pub record SpellsVersion (token : List ℕ) (e : Edition) : Type 0 where
   pub spelt : token ≡ major ++ ascii "." ++ minor
   pub major_digits : is_numeral max_version_digits major ≡ true
   pub minor_digits : is_numeral max_version_digits minor ≡ true
-  pub known : edition_numbered (decimal major) (decimal minor) ≡ some e
+  pub known : edition_numbered (decimal major) (decimal minor) ≡ Some e
 
 -- the K of a type: "one or two digits, no leading zero before another digit", and 1 to 64
 pub record SpellsWidth (digits : List ℕ) (k : ℕ) : Type 0 where
@@ -131,13 +131,13 @@ pub record SaysVersion (vs : List (List (List ℕ))) (version : Option Edition) 
   pub edition : Edition
   pub one : vs ≡ (token ∷ []) ∷ []
   pub spelt : SpellsVersion token edition
-  pub says_edition : version ≡ some edition
+  pub says_edition : version ≡ Some edition
 
 -- "at most one `e`", of one token, which "takes `0` or `1`"
 pub data SaysExpectation (es : List (List (List ℕ))) (expectation : Option ℕ) : Type 0 where
-  no_line : es ≡ [] → expectation ≡ none → SaysExpectation es expectation
-  says_0 : es ≡ (ascii "0" ∷ []) ∷ [] → expectation ≡ some 0 → SaysExpectation es expectation
-  says_1 : es ≡ (ascii "1" ∷ []) ∷ [] → expectation ≡ some 1 → SaysExpectation es expectation
+  no_line : es ≡ [] → expectation ≡ None → SaysExpectation es expectation
+  says_0 : es ≡ (ascii "0" ∷ []) ∷ [] → expectation ≡ Some 0 → SaysExpectation es expectation
+  says_1 : es ≡ (ascii "1" ∷ []) ∷ [] → expectation ≡ Some 1 → SaysExpectation es expectation
 
 -- THE LINES `c` AND `p`
 

@@ -90,13 +90,13 @@ module _ (v : ℕ) (short : v < 100) where
     pub put_two_digits : (k : ℕ) → length (digits v) ≡ k + 1 → Put (digits v) room at (at + k + 1) (set tens_put (at + k) (digit (v % 10)))
     put_two_digits k l = elim (dec_lt v 10) [
       | yes h ↦
-          let none : k ≡ 0 = omega (arith, count_one v h) in
+          let None : k ≡ 0 = omega (arith, count_one v h) in
           let same : v % 10 ≡ v = omega arith in
-          rw (none, add-zero, same, set-set) (put_one_digit v h (put_one (digit v) room at (omega (arith, count_one v h))))
+          rw (None, add-zero, same, set-set) (put_one_digit v h (put_one (digit v) room at (omega (arith, count_one v h))))
       | no h ↦
-          let some : 10 ≤ v = omega arith in
-          let one : k ≡ 1 = omega (arith, count_two some) in
-          let tens = put_one (digit (v / 10)) room at (omega (arith, count_two some)) in
-          let last = put_one (digit (v % 10)) tens_put (at + 1) (omega (arith, count_two some, length-set room at (digit (v / 10)))) in
-          rw (one, digits_two some) (put_then (omega (arith, count_two some)) tens last)
+          let Some : 10 ≤ v = omega arith in
+          let one : k ≡ 1 = omega (arith, count_two Some) in
+          let tens = put_one (digit (v / 10)) room at (omega (arith, count_two Some)) in
+          let last = put_one (digit (v % 10)) tens_put (at + 1) (omega (arith, count_two Some, length-set room at (digit (v / 10)))) in
+          rw (one, digits_two Some) (put_then (omega (arith, count_two Some)) tens last)
     ]

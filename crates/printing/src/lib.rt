@@ -5,18 +5,8 @@ ghost use Rattle.std.specs.Prelude.{◌≡◌, [], ◌∷◌, ◌+◌, ◌<◌, 
 ghost use Rattle.printing.specs.Digits.{digits, counted};
 ghost use Rattle.printing.specs.Room.{Put};
 
-use refusal::Refusal;
-
-pub mod output;
 pub mod parts;
 pub mod refusals;
-
-// What a writer answers: how long its text is, or a refusal.
-#[derive(Clone, Copy)]
-pub enum WriteReply {
-    Written(usize),
-    Refused(Refusal),
-}
 
 pub fn put_byte(b: u8, room: &mut [u8], at: usize) -> usize
     requires { at < length room.old }

@@ -1,21 +1,10 @@
 // The text of a refusal.
 ghost use Rattle.std.specs.Prelude.{◌+◌, ◌≤◌, length};
-ghost use Rattle.refusal.specs.SubjectWords.{subject_word};
 ghost use Rattle.printing.specs.Room.{Put};
 ghost use Rattle.printing.specs.RefusalText.{refusal_text};
 
 use super::{put_byte, put_bytes, put_count};
-use refusal::{Refusal, Subject};
-
-fn put_subject(subject: Subject, room: &mut [u8], at: usize) -> usize
-    requires { at + length (subject_word subject) ≤ length room.old }
-    ensures { Put (subject_word subject) room.old at result room.new }
-{
-    let label = subject.word();
-    let bytes = label.bytes;
-    let len = label.len;
-    put_bytes(&bytes[..len], room, at)
-}
+use refusal::Refusal;
 
 // As in `refused 15 constraint 32`, with no line end.
 pub fn put_refusal(refusal: Refusal, room: &mut [u8], at: usize) -> usize
@@ -23,8 +12,8 @@ pub fn put_refusal(refusal: Refusal, room: &mut [u8], at: usize) -> usize
     ensures { Put (refusal_text refusal) room.old at result room.new }
 {
     let subject = refusal.subject;
-    let numbered = put_count(b"refused ", refusal.number as u64, room, at);
+    let numbered = put_count(b"refused ", refusal.fault.number() as u64, room, at);
     let word = put_byte(b' ', room, numbered);
-    let named = put_subject(subject, room, word);
+    let named = put_bytes(subject.word(), room, word);
     put_count(b" ", refusal.position as u64, room, named)
 }

@@ -7,7 +7,6 @@ ghost use Rattle.reader.specs.Inspect.{inspect_outcome};
 use edition::Edition;
 use reading::read;
 use refusal::Refusal;
-use store::Step;
 use store::lines::{TABLE_BODIES, TABLE_HEADS};
 
 pub mod claims;
@@ -20,24 +19,16 @@ pub struct Counts {
     pub lines: usize,
 }
 
-#[derive(Clone, Copy)]
-pub enum Inspected {
-    Sound(Counts),
-    Refused(Refusal),
-}
-
 // Reads and types any bytes: the refusal, or how many variables and lines the file has.
-pub fn inspect(file: &[u8]) -> Inspected
+pub fn inspect(file: &[u8]) -> Result<Counts, Refusal>
     ensures { result ≡ inspect_outcome file.now }
 {
     let mut variables = [0u64; Edition::VARIABLES];
     let mut heads = [0u8; TABLE_HEADS];
     let mut bodies = [0u64; TABLE_BODIES];
-    match read(file, &mut variables, &mut heads, &mut bodies) {
-        Step::Stop(r) => Inspected::Refused(r),
-        Step::Next(p) => Inspected::Sound(Counts {
-            variables: p.variables,
-            lines: p.lines,
-        }),
-    }
+    let p = read(file, &mut variables, &mut heads, &mut bodies)?;
+    Ok(Counts {
+        variables: p.variables,
+        lines: p.lines,
+    })
 }

@@ -1,7 +1,8 @@
 // Reading a file into tables, line by line.
-ghost use Rattle.std.specs.Prelude.{◌≡◌, true, ℕ, ◌<◌, ◌≤◌, length, take, drop};
+ghost use Rattle.std.specs.Prelude.{◌≡◌, true, ℕ, ◌<◌, ◌≤◌, length, take, drop, IfOk};
 ghost use Rattle.edition.specs.Edition.{max_file_bytes};
 ghost use Rattle.refusal.specs.Lists.{every};
+ghost use Rattle.refusal.specs.Result.{accepted_as};
 ghost use Rattle.refusal.specs.declared.Subject.TheVariants.{Constraint as TheConstraint};
 ghost use Rattle.text.specs.Lines.{text_lines};
 ghost use Rattle.text.specs.Reading.{read_any_line, read_lines};
@@ -11,21 +12,18 @@ ghost use Rattle.constraint.specs.File.{empty_file};
 ghost use Rattle.constraint.specs.Read.{kind_of, read_statement, add_line, read_line, read_file};
 ghost use Rattle.store.specs.Names.{Searchable};
 ghost use Rattle.store.specs.Tables.{table_heads, table_bodies, store_of, StoreSized};
-ghost use Rattle.store.specs.Progress.{nothing_read, stored_file, HeadsInUseFit, InTables, step_result, advanced, added_result, HasRoom, StepInTables, StepHeadsFit, StepSearchable};
+ghost use Rattle.store.specs.Progress.{nothing_read, stored_file, HeadsInUseFit, InTables, with_part, advanced, added_result, HasRoom};
 
-use constraint::refusals::refusal;
 use constraint::{Form, Kind};
-use declaration::HeaderLine;
 use declaration::declarations::declaration_line;
-use declaration::header::header_line;
+use declaration::header::{expectation_line, version_line};
 use edition::Edition;
-use refusal::Refusal;
-use statement::LineRead;
+use refusal::{Fault, Refusal, Subject};
 use statement::operations::statement_line;
 use store::lines::{TABLE_BODIES, TABLE_HEADS};
-use store::{Added, Expectation, Progress, Step, Version};
+use store::{Part, Progress};
+use text::Class;
 use text::scan::{all, find_line, leads};
-use text::{Class, LineFound};
 
 // The kind of the line from `at` to the end.
 fn kind_of(line: &[u8], at: usize) -> Kind
@@ -63,17 +61,15 @@ fn read_statement(
     heads: &mut [u8; TABLE_HEADS],
     bodies: &mut [u64; TABLE_BODIES],
     p: Progress,
-) -> Added
+) -> Result<Part, Refusal>
     requires { (at < stop) × (stop ≤ length file.now) × InTables p × (length heads.old ≡ table_heads) × (length bodies.old ≡ table_bodies) × Searchable file.now variables.now p.variables }
-    ensures { ((next : ℕ) → added_result file.now (store_of variables.now heads.new bodies.new) p result ≡ add_line (stored_file file.now (store_of variables.now heads.old bodies.old) p) (read_statement form (stored_file file.now (store_of variables.now heads.old bodies.old) p) (line_at (take stop file.now) at next))) × (length heads.new ≡ table_heads) × (length bodies.new ≡ table_bodies) × HasRoom p result × (HeadsInUseFit file.now (store_of variables.now heads.old bodies.old) p → StepHeadsFit file.now (store_of variables.now heads.new bodies.new) (advanced p result)) × StepSearchable file.now variables.now (advanced p result) }
+    ensures { ((next : ℕ) → added_result file.now (store_of variables.now heads.new bodies.new) p result ≡ add_line (stored_file file.now (store_of variables.now heads.old bodies.old) p) (read_statement form (stored_file file.now (store_of variables.now heads.old bodies.old) p) (line_at (take stop file.now) at next))) × (length heads.new ≡ table_heads) × (length bodies.new ≡ table_bodies) × IfOk result (HasRoom p) × (HeadsInUseFit file.now (store_of variables.now heads.old bodies.old) p → IfOk (advanced p result) (HeadsInUseFit file.now (store_of variables.now heads.new bodies.new))) × IfOk (advanced p result) (λ q. Searchable file.now variables.now q.variables) }
 {
     let n = p.variables;
     let m = p.lines;
     let line = &file[..stop];
-    match statement_line(file, variables, n, line, at, form, heads, bodies, m) {
-        LineRead::NoLine(r) => Added::Fault(r),
-        LineRead::Complete => Added::LinePart,
-    }
+    statement_line(file, variables, n, line, at, form, heads, bodies, m)?;
+    Ok(Part::Line)
 }
 
 // Reads the line that stops at `stop`, from `at` on; it is not blank.
@@ -85,19 +81,19 @@ fn read_line(
     heads: &mut [u8; TABLE_HEADS],
     bodies: &mut [u64; TABLE_BODIES],
     p: Progress,
-) -> Added
+) -> Result<Part, Refusal>
     requires { (at < stop) × (stop ≤ length file.now) × (length file.now ≤ max_file_bytes) × InTables p × StoreSized (store_of variables.old heads.old bodies.old) × Searchable file.now variables.old p.variables }
-    ensures { ((next : ℕ) → added_result file.now (store_of variables.new heads.new bodies.new) p result ≡ read_line (stored_file file.now (store_of variables.old heads.old bodies.old) p) (line_at (take stop file.now) at next)) × StoreSized (store_of variables.new heads.new bodies.new) × StepSearchable file.now variables.new (advanced p result) × HasRoom p result × (HeadsInUseFit file.now (store_of variables.old heads.old bodies.old) p → StepHeadsFit file.now (store_of variables.new heads.new bodies.new) (advanced p result)) }
+    ensures { ((next : ℕ) → added_result file.now (store_of variables.new heads.new bodies.new) p result ≡ read_line (stored_file file.now (store_of variables.old heads.old bodies.old) p) (line_at (take stop file.now) at next)) × StoreSized (store_of variables.new heads.new bodies.new) × IfOk (advanced p result) (λ q. Searchable file.now variables.new q.variables) × IfOk result (HasRoom p) × (HeadsInUseFit file.now (store_of variables.old heads.old bodies.old) p → IfOk (advanced p result) (HeadsInUseFit file.now (store_of variables.new heads.new bodies.new))) }
 {
     match kind_of(&file[..stop], at) {
-        Kind::Skipped => Added::NoPart,
-        Kind::OfVersion => header_line(&file[..stop], at, p, HeaderLine::VersionLine),
-        Kind::OfExpectation => header_line(&file[..stop], at, p, HeaderLine::ExpectationLine),
+        Kind::Skipped => Ok(Part::Nothing),
+        Kind::OfVersion => version_line(&file[..stop], at, p),
+        Kind::OfExpectation => expectation_line(&file[..stop], at, p),
         Kind::OfDeclarations => declaration_line(file, stop, at, variables, p),
         Kind::OfStatement(form) => {
             read_statement(file, stop, at, form, variables, heads, bodies, p)
         }
-        Kind::OfNoKind => Added::Fault(refusal(Refusal::UNKNOWN_LINE, at)),
+        Kind::OfNoKind => Err(Refusal::of(Subject::Constraint, Fault::UnknownLine, at)),
     }
 }
 
@@ -110,12 +106,12 @@ fn read_any_line(
     heads: &mut [u8; TABLE_HEADS],
     bodies: &mut [u64; TABLE_BODIES],
     p: Progress,
-) -> Added
+) -> Result<Part, Refusal>
     requires { (at ≤ stop) × (stop ≤ length file.now) × (length file.now ≤ max_file_bytes) × InTables p × StoreSized (store_of variables.old heads.old bodies.old) × Searchable file.now variables.old p.variables × (every is_allowed (drop at (take stop file.now)) ≡ true) }
-    ensures { ((next : ℕ) → added_result file.now (store_of variables.new heads.new bodies.new) p result ≡ read_any_line TheConstraint read_line (stored_file file.now (store_of variables.old heads.old bodies.old) p) (line_at (take stop file.now) at next)) × StoreSized (store_of variables.new heads.new bodies.new) × StepSearchable file.now variables.new (advanced p result) × HasRoom p result × (HeadsInUseFit file.now (store_of variables.old heads.old bodies.old) p → StepHeadsFit file.now (store_of variables.new heads.new bodies.new) (advanced p result)) }
+    ensures { ((next : ℕ) → added_result file.now (store_of variables.new heads.new bodies.new) p result ≡ read_any_line TheConstraint read_line (stored_file file.now (store_of variables.old heads.old bodies.old) p) (line_at (take stop file.now) at next)) × StoreSized (store_of variables.new heads.new bodies.new) × IfOk (advanced p result) (λ q. Searchable file.now variables.new q.variables) × IfOk result (HasRoom p) × (HeadsInUseFit file.now (store_of variables.old heads.old bodies.old) p → IfOk (advanced p result) (HeadsInUseFit file.now (store_of variables.new heads.new bodies.new))) }
 {
     if all(&file[..stop], at, Class::Space) {
-        return Added::NoPart;
+        return Ok(Part::Nothing);
     }
     read_line(file, stop, at, variables, heads, bodies, p)
 }
@@ -125,49 +121,33 @@ fn nothing() -> Progress
     ensures { result ≡ nothing_read }
 {
     Progress {
-        version: Version::NoVersion,
-        expectation: Expectation::NoExpectation,
+        version: None,
+        expectation: None,
         variables: 0,
         lines: 0,
     }
 }
 
-// The step from p on by what a line adds.
-fn advance(p: Progress, added: Added) -> Step
-    requires { HasRoom p added }
-    ensures { result ≡ advanced p added }
+// The progress from p on by what a line adds.
+fn advance(p: Progress, part: Part) -> Progress
+    requires { HasRoom p part }
+    ensures { result ≡ with_part p part }
 {
-    let version = p.version;
-    let expectation = p.expectation;
-    let variables = p.variables;
-    let lines = p.lines;
-    match added {
-        Added::Fault(r) => Step::Stop(r),
-        Added::NoPart => Step::Next(p),
-        Added::VersionPart(e) => Step::Next(Progress {
-            version: Version::HasVersion(e),
-            expectation,
-            variables,
-            lines,
-        }),
-        Added::ExpectationPart(n) => Step::Next(Progress {
-            version,
-            expectation: Expectation::HasExpectation(n),
-            variables,
-            lines,
-        }),
-        Added::VariablesPart(n) => Step::Next(Progress {
-            version,
-            expectation,
-            variables: n,
-            lines,
-        }),
-        Added::LinePart => Step::Next(Progress {
-            version,
-            expectation,
-            variables,
-            lines: lines + 1,
-        }),
+    match part {
+        Part::Nothing => p,
+        Part::Version(e) => Progress {
+            version: Some(e),
+            ..p
+        },
+        Part::Expectation(n) => Progress {
+            expectation: Some(n),
+            ..p
+        },
+        Part::Variables(n) => Progress { variables: n, ..p },
+        Part::Line => Progress {
+            lines: p.lines + 1,
+            ..p
+        },
     }
 }
 
@@ -177,32 +157,20 @@ fn read_lines(
     variables: &mut [u64; Edition::VARIABLES],
     heads: &mut [u8; TABLE_HEADS],
     bodies: &mut [u64; TABLE_BODIES],
-) -> Step
+) -> Result<Progress, Refusal>
     requires { (length file.now ≤ max_file_bytes) × StoreSized (store_of variables.old heads.old bodies.old) × Searchable file.now variables.old 0 }
-    ensures { (step_result file.now (store_of variables.new heads.new bodies.new) result ≡ read_lines TheConstraint read_line empty_file (text_lines file.now)) × StoreSized (store_of variables.new heads.new bodies.new) × StepSearchable file.now variables.new result × StepInTables result × StepHeadsFit file.now (store_of variables.new heads.new bodies.new) result }
+    ensures { (accepted_as (stored_file file.now (store_of variables.new heads.new bodies.new)) result ≡ read_lines TheConstraint read_line empty_file (text_lines file.now)) × StoreSized (store_of variables.new heads.new bodies.new) × IfOk result (λ p. Searchable file.now variables.new p.variables) × IfOk result InTables × IfOk result (HeadsInUseFit file.now (store_of variables.new heads.new bodies.new)) }
 {
     let mut p = nothing();
     let mut i = 0;
     while i < file.len() {
-        match find_line(file, i) {
-            LineFound::Faulty(bad) => {
-                return Step::Stop(refusal(Refusal::BYTE_NOT_ALLOWED, bad));
-            }
-            LineFound::Ends(stop, next) => {
-                let added = read_any_line(file, stop, i, variables, heads, bodies, p);
-                match advance(p, added) {
-                    Step::Stop(r) => {
-                        return Step::Stop(r);
-                    }
-                    Step::Next(q) => {
-                        p = q;
-                    }
-                }
-                i = next;
-            }
-        }
+        let refuse = |bad| Refusal::of(Subject::Constraint, Fault::ByteNotAllowed, bad);
+        let line = find_line(file, i).map_err(refuse)?;
+        let part = read_any_line(file, line.stop, i, variables, heads, bodies, p)?;
+        p = advance(p, part);
+        i = line.next;
     }
-    Step::Next(p)
+    Ok(p)
 }
 
 // Reads a file into tables. The table of variables holds none yet: its words are 0.
@@ -211,21 +179,16 @@ pub fn read(
     variables: &mut [u64; Edition::VARIABLES],
     heads: &mut [u8; TABLE_HEADS],
     bodies: &mut [u64; TABLE_BODIES],
-) -> Step
+) -> Result<Progress, Refusal>
     requires { StoreSized (store_of variables.old heads.old bodies.old) × Searchable file.now variables.old 0 }
-    ensures { (step_result file.now (store_of variables.new heads.new bodies.new) result ≡ read_file file.now) × StoreSized (store_of variables.new heads.new bodies.new) × StepInTables result × StepHeadsFit file.now (store_of variables.new heads.new bodies.new) result × StepSearchable file.now variables.new result }
+    ensures { (accepted_as (stored_file file.now (store_of variables.new heads.new bodies.new)) result ≡ read_file file.now) × StoreSized (store_of variables.new heads.new bodies.new) × IfOk result InTables × IfOk result (HeadsInUseFit file.now (store_of variables.new heads.new bodies.new)) × IfOk result (λ p. Searchable file.now variables.new p.variables) }
 {
     if Edition::FILE_BYTES < file.len() {
-        return Step::Stop(refusal(Refusal::FILE_TOO_LONG, Edition::FILE_BYTES));
+        return Err(Refusal::of(Subject::Constraint, Fault::FileTooLong, Edition::FILE_BYTES));
     }
-    match read_lines(file, variables, heads, bodies) {
-        Step::Stop(r) => Step::Stop(r),
-        Step::Next(p) => {
-            let version = p.version;
-            match version {
-                Version::NoVersion => Step::Stop(refusal(Refusal::MISPLACED_LINE, file.len())),
-                Version::HasVersion(_) => Step::Next(p),
-            }
-        }
+    let p = read_lines(file, variables, heads, bodies)?;
+    if p.version.is_none() {
+        return Err(Refusal::of(Subject::Constraint, Fault::MisplacedLine, file.len()));
     }
+    Ok(p)
 }

@@ -3,7 +3,7 @@ use Prim.Native.Nat.{ℕ, zero, suc, ◌+◌, ◌≤◌, ◌<◌}
 use mathlib.Core.Path.{◌≡◌, refl, ◌∙◌}
 use mathlib.Core.Bool.{Bool, true, false, not, cond}
 use mathlib.Core.List.{List, [], ◌∷◌, ◌++◌, map, flat_map, nil≢cons, cons≢nil, head-eq_of_cons-eq, tail-eq_of_cons-eq, map-append}
-use mathlib.Core.Option.{Option, none, some}
+use Rattle.std.specs.Prelude.{Option, None, Some}
 use native.Mathlib.Nat.{add-zero}
 use native.Mathlib.Numerals.{add-one}
 use native.Mathlib.Omega.{arith}
@@ -11,51 +11,52 @@ use lib.Dec.{eqb}
 use lib.ListN.{length, get_or, drop, drop_of_length-le}
 use lib.Seq.{drop-cons}
 use borrow.Author.Tests.{eqb-true}
-use Rattle.refusal.specs.Lists.{first_from, is_there, every, is_one_of}
+use Rattle.std.specs.Prelude.{is_some}
+use Rattle.refusal.specs.Lists.{first_from, every, is_one_of}
 use Rattle.refusal.proofs.ResultLaws.{never}
 use Rattle.refusal.proofs.BoolLaws.{and_false, and_true}
 
 -- a thing that is not there
-pub not_there : {A : Type 0} (o : Option A) → not (is_there o) ≡ true → o ≡ none
-not_there none e = refl
-not_there (some a) e = never (cc e)
+pub not_there : {A : Type 0} (o : Option A) → not (is_some o) ≡ true → o ≡ None
+not_there None e = refl
+not_there (Some a) e = never (cc e)
 
 -- one that is there only where a test passes
-pub cond_some : {A : Type 0} (t : Bool) (o : Option A) (a : A) → cond t o none ≡ some a → (t ≡ true) × (o ≡ some a)
+pub cond_some : {A : Type 0} (t : Bool) (o : Option A) (a : A) → cond t o None ≡ Some a → (t ≡ true) × (o ≡ Some a)
 cond_some true o a e = (refl, e)
 cond_some false o a e = never (cc e)
 
 -- no first: the element in front fails, and there is no first behind it
-no_first : (t : Bool) (n : ℕ) (rest : Option ℕ) → cond t (some n) rest ≡ none → (t ≡ false) × (rest ≡ none)
+no_first : (t : Bool) (n : ℕ) (rest : Option ℕ) → cond t (Some n) rest ≡ None → (t ≡ false) × (rest ≡ None)
 no_first true n rest e = never (cc e)
 no_first false n rest e = (refl, e)
 
-pub first_none : {A : Type 0} (test : A → Bool) (n : ℕ) (x : A) (xs : List A) → first_from test n (x ∷ xs) ≡ none → (test x ≡ false) × (first_from test (suc n) xs ≡ none)
+pub first_none : {A : Type 0} (test : A → Bool) (n : ℕ) (x : A) (xs : List A) → first_from test n (x ∷ xs) ≡ None → (test x ≡ false) × (first_from test (suc n) xs ≡ None)
 unfolding first_from
 first_none test n x xs = no_first (test x) n (first_from test (suc n) xs)
 
 -- a first is one of the elements
-below : (t : Bool) (n i k : ℕ) (rest : Option ℕ) → (rest ≡ some i → i < suc n + k) → cond t (some n) rest ≡ some i → i < n + suc k
+below : (t : Bool) (n i k : ℕ) (rest : Option ℕ) → (rest ≡ Some i → i < suc n + k) → cond t (Some n) rest ≡ Some i → i < n + suc k
 below true n i k rest h e = let z : n ≡ i = cc e in omega arith
 below false n i k rest h e = let z = h e in omega arith
 
-pub first_below : {A : Type 0} (test : A → Bool) (n i : ℕ) (xs : List A) → first_from test n xs ≡ some i → i < n + length xs
+pub first_below : {A : Type 0} (test : A → Bool) (n i : ℕ) (xs : List A) → first_from test n xs ≡ Some i → i < n + length xs
 unfolding first_from
 first_below test n i [] e = never (cc e)
 first_below test n i (x ∷ xs) e = below (test x) n i (length xs) (first_from test (suc n) xs) (first_below test (suc n) i xs) e
 
 -- counted from n, a first is not before n
-not_before : (t : Bool) (n i : ℕ) (rest : Option ℕ) → (rest ≡ some i → suc n ≤ i) → cond t (some n) rest ≡ some i → n ≤ i
+not_before : (t : Bool) (n i : ℕ) (rest : Option ℕ) → (rest ≡ Some i → suc n ≤ i) → cond t (Some n) rest ≡ Some i → n ≤ i
 not_before true n i rest h e = let z : n ≡ i = cc e in omega arith
 not_before false n i rest h e = let z = h e in omega arith
 
-pub first_from_lem : {A : Type 0} (test : A → Bool) (n i : ℕ) (xs : List A) → first_from test n xs ≡ some i → n ≤ i
+pub first_from_lem : {A : Type 0} (test : A → Bool) (n i : ℕ) (xs : List A) → first_from test n xs ≡ Some i → n ≤ i
 unfolding first_from
 first_from_lem test n i [] e = never (cc e)
 first_from_lem test n i (x ∷ xs) e = not_before (test x) n i (first_from test (suc n) xs) (first_from_lem test (suc n) i xs) e
 
 -- a list with no first leaves it to what stands behind
-pub first_behind : {A : Type 0} (test : A → Bool) (n : ℕ) (xs ys : List A) → first_from test n xs ≡ none → first_from test n (xs ++ ys) ≡ first_from test (n + length xs) ys
+pub first_behind : {A : Type 0} (test : A → Bool) (n : ℕ) (xs ys : List A) → first_from test n xs ≡ None → first_from test n (xs ++ ys) ≡ first_from test (n + length xs) ys
 unfolding first_from
 first_behind test n [] ys e = rw add-zero
 first_behind test n (x ∷ xs) ys e =
@@ -67,7 +68,7 @@ first_behind test n (x ∷ xs) ys e =
 module _ {A : Type 0} (test : A → Bool) (n : ℕ) (l : List A) (i : ℕ) where
   -- the element at place i, and those behind it
   module _ (d : A) (h : i < length l) where
-    pub first_here : test (get_or l i d) ≡ true → first_from test n (drop i l) ≡ some n
+    pub first_here : test (get_or l i d) ≡ true → first_from test n (drop i l) ≡ Some n
     unfolding first_from
     first_here k = rw (drop-cons l i d h, k)
 
@@ -76,16 +77,16 @@ module _ {A : Type 0} (test : A → Bool) (n : ℕ) (l : List A) (i : ℕ) where
     first_later k = rw (drop-cons l i d h, k, add-one i, add-one n)
 
   -- past the last element
-  pub first_nowhere : length l ≤ i → first_from test n (drop i l) ≡ none
+  pub first_nowhere : length l ≤ i → first_from test n (drop i l) ≡ None
   unfolding first_from
   first_nowhere h = rw (drop_of_length-le l h)
 
 -- the first element that passes a test passes it
-passes : (P : ℕ → Type 0) (t : Bool) (n i : ℕ) (rest : Option ℕ) → (t ≡ true → P 0) → (rest ≡ some i → (k : ℕ) × (i ≡ suc n + k) × P (suc k)) → cond t (some n) rest ≡ some i → (k : ℕ) × (i ≡ n + k) × P k
+passes : (P : ℕ → Type 0) (t : Bool) (n i : ℕ) (rest : Option ℕ) → (t ≡ true → P 0) → (rest ≡ Some i → (k : ℕ) × (i ≡ suc n + k) × P (suc k)) → cond t (Some n) rest ≡ Some i → (k : ℕ) × (i ≡ n + k) × P k
 passes P true n i rest here later e = let z : n ≡ i = cc e in (0, omega arith, here refl)
 passes P false n i rest here later e = let p = later e in (suc p.0, omega arith, p.2)
 
-pub first_passes : {A : Type 0} (test : A → Bool) (d : A) (n i : ℕ) (xs : List A) → first_from test n xs ≡ some i → (k : ℕ) × (i ≡ n + k) × (test (get_or xs k d) ≡ true)
+pub first_passes : {A : Type 0} (test : A → Bool) (d : A) (n i : ℕ) (xs : List A) → first_from test n xs ≡ Some i → (k : ℕ) × (i ≡ n + k) × (test (get_or xs k d) ≡ true)
 unfolding first_from
 first_passes test d n i [] e = never (cc e)
 first_passes test d n i (x ∷ xs) e = passes (λ k. test (get_or (x ∷ xs) k d) ≡ true) (test x) n i (first_from test (suc n) xs) (λ t. t) (first_passes test d (suc n) i xs) e
@@ -132,11 +133,11 @@ every_broken p [] a t e = rw e
 every_broken p (b ∷ s) a t e = rw (every_broken p s a t e, and_false)
 
 -- a number of a list passes a test that all of them pass
-passes_by : (test : ℕ → Bool) (n m k : ℕ) (t : Bool) (rest : Option ℕ) → eqb n m ≡ t → test m ≡ true → (is_there rest ≡ true → test n ≡ true) → is_there (cond t (some k) rest) ≡ true → test n ≡ true
+passes_by : (test : ℕ → Bool) (n m k : ℕ) (t : Bool) (rest : Option ℕ) → eqb n m ≡ t → test m ≡ true → (is_some rest ≡ true → test n ≡ true) → is_some (cond t (Some k) rest) ≡ true → test n ≡ true
 passes_by test n m k true rest q h later e = rw (eqb-true n m q) h
 passes_by test n m k false rest q h later e = later e
 
-found_passes : (test : ℕ → Bool) (n k : ℕ) (ns : List ℕ) → every test ns ≡ true → is_there (first_from (eqb n) k ns) ≡ true → test n ≡ true
+found_passes : (test : ℕ → Bool) (n k : ℕ) (ns : List ℕ) → every test ns ≡ true → is_some (first_from (eqb n) k ns) ≡ true → test n ≡ true
 unfolding every first_from
 found_passes test n k [] h e = never (cc e)
 found_passes test n k (m ∷ ns) h e =

@@ -3,22 +3,23 @@ use Prim.Native.Nat.{ℕ, suc}
 use mathlib.Core.Path.{◌≡◌, refl, sym, ap, ◌∙◌}
 use mathlib.Core.Bool.{Bool, true, false, cond, ◌||◌, or_assoc}
 use mathlib.Core.List.{List, [], ◌∷◌, ◌++◌}
-use mathlib.Core.Option.{Option, some}
+use Rattle.std.specs.Prelude.{Option, Some}
 use lib.Dec.{eqb}
-use Rattle.refusal.specs.Lists.{first_from, is_there, is_one_of}
+use Rattle.std.specs.Prelude.{is_some}
+use Rattle.refusal.specs.Lists.{first_from, is_one_of}
 use Rattle.refusal.proofs.BoolLaws.{or_false}
 
 -- a first is there or not, wherever the count begins
-there_by : (t : Bool) (a b : ℕ) (p q : Option ℕ) → is_there p ≡ is_there q → is_there (cond t (some a) p) ≡ is_there (cond t (some b) q)
+there_by : (t : Bool) (a b : ℕ) (p q : Option ℕ) → is_some p ≡ is_some q → is_some (cond t (Some a) p) ≡ is_some (cond t (Some b) q)
 there_by true a b p q e = refl
 there_by false a b p q e = e
 
-there_from : (test : ℕ → Bool) (a b : ℕ) (ns : List ℕ) → is_there (first_from test a ns) ≡ is_there (first_from test b ns)
+there_from : (test : ℕ → Bool) (a b : ℕ) (ns : List ℕ) → is_some (first_from test a ns) ≡ is_some (first_from test b ns)
 unfolding first_from
 there_from test a b [] = refl
 there_from test a b (n ∷ ns) = there_by (test n) a b (first_from test (suc a) ns) (first_from test (suc b) ns) (there_from test (suc a) (suc b) ns)
 
-there_or : (t : Bool) (a : ℕ) (p : Option ℕ) → is_there (cond t (some a) p) ≡ (t || is_there p)
+there_or : (t : Bool) (a : ℕ) (p : Option ℕ) → is_some (cond t (Some a) p) ≡ (t || is_some p)
 there_or true a p = refl
 there_or false a p = refl
 

@@ -1,10 +1,9 @@
 -- The words that a report has for what a refusal speaks of.
-use Rattle.std.specs.Prelude.{ℕ, ◌-◌, List, [], ◌∷◌, ◌++◌, length, replicate}
+use Rattle.std.specs.Prelude.{ℕ, List, [], ◌∷◌}
 use Prim.Native.Char.{code}
 use Prim.Native.String.{String, [] as ε, ◌∷◌ as ◌∷ˢ◌}
 use Rattle.refusal.specs.declared.Subject.{Subject}
 use Rattle.refusal.specs.declared.Subject.TheVariants.{Constraint, Answer, Values, Verdicts, Output, Call, Starts, Lists, Results}
-use Rattle.refusal.specs.declared.Label.{Label}
 
 -- the bytes of a text in ASCII
 abbrev pub ascii : String → List ℕ
@@ -22,7 +21,3 @@ subject_word Call = ascii "call"
 subject_word Starts = ascii "starts"
 subject_word Lists = ascii "lists"
 subject_word Results = ascii "results"
-
--- a word as the call gives it: filled up with spaces to the longest word's ten bytes
-abbrev pub label : List ℕ → Label
-label word = record { bytes = word ++ replicate (10 - length word) (code " "); len = length word }

@@ -21,5 +21,5 @@ use Rattle.report.specs.Text.{overall_text, tally_text, report_text}
 use Rattle.report.specs.Claims.{CaseWhole}
 
 pub case_whole : CaseWhole
-unfolding edition_numbered is_width every first_from how_many arity widths_hold joins typed value_of meaning same front_of is_space is_line_feed is_carriage_return is_allowed is_digit is_letter is_name_byte terminator_length content_of line_length line_of lines_from token_of tokens_from leads is_name is_numeral decimal_from leading_zero is_type up_to behind read_any_line read_lines read_text variable_named width_at operand_word target rule_word result_width constant_rule predicate_rule well_typed bitwise_spellings predicate_spellings arithmetic_spellings shift_and_cast_spellings spellings operator_spelt in_header read_single version_of read_version declare declare_all read_declarations read_variable read_operand next_operand read_operands read_operation next_output read_statement kind_of read_as read_line read_file result_of judge column_of first_verdict overall_of answer.solution_of answer.read_word answer.read_solution answer.setting_of answer.read_setting answer.read_settings answer.read_values answer.answer_kind answer.read_answer_as answer.read_answer_line answer.all_set answer.read_answer answering digits_in digits refusal_text overall_text tally_text report_text
+unfolding edition_numbered is_width every first_from how_many arity widths_hold joins typed value_of meaning same front_of is_space is_line_feed is_carriage_return is_allowed is_digit is_letter is_name_byte terminator_length content_of line_length line_of lines_from token_of tokens_from leads is_name is_numeral decimal_from leading_zero is_type up_to behind read_any_line read_lines read_text variable_named width_at operand_word target rule_word result_width constant_rule predicate_rule well_typed bitwise_spellings predicate_spellings arithmetic_spellings shift_and_cast_spellings spellings operator_spelt in_header read_single version_of read_version declare declare_all read_declarations read_variable read_operand next_operand read_operands read_operation next_output read_statement kind_of read_as read_line read_file result_of judge column_of first_verdict overall_of answer.solution_of answer.read_solution answer.setting_of answer.read_setting answer.read_settings answer.read_values answer.answer_kind answer.read_answer_as answer.read_answer_line answer.all_set answer.read_answer answering digits_in digits refusal_text overall_text tally_text report_text
 case_whole = record { violated = refl; satisfied = refl; refused = refl }

@@ -6,12 +6,12 @@ use native.Mathlib.Nat.{zero-add}
 use native.Mathlib.Omega.{arith}
 use lib.ListN.{length, drop, length-append}
 use Rattle.refusal.specs.declared.Refusal.{Refusal}
+use Rattle.refusal.specs.Result.{Reply, Ok, Err}
 use Rattle.refusal.specs.SubjectWords.{ascii}
 use Rattle.judge.specs.declared.Overall.{Overall}
 use Rattle.judge.specs.declared.Overall.TheVariants.{Satisfied, Violated, Disregarded}
 use Rattle.tables.specs.declared.Tally.{Tally}
 use Rattle.tables.specs.declared.Report.{Report}
-use Rattle.tables.specs.declared.Report.TheVariants.{Tallied, Refused}
 use Rattle.text.specs.Spelling.{max_digits}
 use Rattle.printing.specs.Digits.{digits, counted}
 use Rattle.printing.specs.Room.{Put}
@@ -48,30 +48,30 @@ module _ (t : Tally) where
       put_then h (put_then (simp length-append (omega arith)) (put_then (simp length-append (omega arith)) p q) r) s
 
 -- ---- two lines
-module _ (o : Overall) (t : Tally) where
-  pub tallied_length : length (report_text (Tallied o t)) ≡ length (overall_text o) + 1 + length (tally_text t) + 1
+module _ (r : Report) where
+  pub report_length : length (report_text (Ok r)) ≡ length (overall_text r.overall) + 1 + length (tally_text r.tally) + 1
   unfolding report_text
-  tallied_length = simp length-append (omega arith)
+  report_length = simp length-append (omega arith)
 
-  pub put_tallied : {room : List ℕ} → length (report_text (Tallied o t)) ≤ length room
+  pub put_report : {room : List ℕ} → length (report_text (Ok r)) ≤ length room
       → {end₁ end₂ end₃ end₄ : ℕ} {room₁ room₂ room₃ room₄ : List ℕ}
-      → Put (overall_text o) room 0 end₁ room₁ → Put (ascii "\n") room₁ end₁ end₂ room₂ → Put (tally_text t) room₂ end₂ end₃ room₃ → Put (ascii "\n") room₃ end₃ end₄ room₄
-      → Put (report_text (Tallied o t)) room 0 end₄ room₄
+      → Put (overall_text r.overall) room 0 end₁ room₁ → Put (ascii "\n") room₁ end₁ end₂ room₂ → Put (tally_text r.tally) room₂ end₂ end₃ room₃ → Put (ascii "\n") room₃ end₃ end₄ room₄
+      → Put (report_text (Ok r)) room 0 end₄ room₄
   unfolding report_text
-  put_tallied h p q r s =
-      let l = tallied_length in
-      put_then (omega arith) (put_then (simp length-append (omega arith)) (put_then (simp length-append (omega arith)) p q) r) s
+  put_report h p q t s =
+      let l = report_length in
+      put_then (omega arith) (put_then (simp length-append (omega arith)) (put_then (simp length-append (omega arith)) p q) t) s
 
 -- ---- the one line of a refusal
 module _ (x : Refusal) where
-  pub refused_length : length (report_text (Refused x)) ≡ length (refusal_text x) + 1
+  pub refused_length : length (report_text (Err x)) ≡ length (refusal_text x) + 1
   unfolding report_text
   refused_length = length-append (refusal_text x) (ascii "\n")
 
-  pub put_refused : {room : List ℕ} → length (report_text (Refused x)) ≤ length room
+  pub put_refused : {room : List ℕ} → length (report_text (Err x)) ≤ length room
       → {end₁ end₂ : ℕ} {room₁ room₂ : List ℕ}
       → Put (refusal_text x) room 0 end₁ room₁ → Put (ascii "\n") room₁ end₁ end₂ room₂
-      → Put (report_text (Refused x)) room 0 end₂ room₂
+      → Put (report_text (Err x)) room 0 end₂ room₂
   unfolding report_text
   put_refused h p q = put_then (omega arith) p q
 
@@ -79,17 +79,17 @@ module _ (x : Refusal) where
 abbrev max_report_bytes : ℕ
 max_report_bytes = 49 + 5 * max_digits
 
-report_bound : (r : Report) → length (report_text r) ≤ max_report_bytes
-report_bound (Tallied o t) = omega (arith, tallied_length o t, overall_bound o, tally_bound t)
-report_bound (Refused x) = omega (arith, refused_length x, refusal_bound x)
+report_bound : (r : Reply Report) → length (report_text r) ≤ max_report_bytes
+report_bound (Ok r) = omega (arith, report_length r, overall_bound r.overall, tally_bound r.tally)
+report_bound (Err x) = omega (arith, refused_length x, refusal_bound x)
 
-pub report_fits : (r : Report) (room : ℕ) → room ≡ max_report_bytes → length (report_text r) ≤ room
+pub report_fits : (r : Reply Report) (room : ℕ) → room ≡ max_report_bytes → length (report_text r) ≤ room
 report_fits r room e = omega (arith, report_bound r)
 
-pub report_written_lem : (r : Report) {room : List ℕ} {end : ℕ} {room' : List ℕ} → Put (report_text r) room 0 end room' → record { end = end; room = room' } ≡ report_written room r
+pub report_written_lem : (r : Reply Report) {room : List ℕ} {end : ℕ} {room' : List ℕ} → Put (report_text r) room 0 end room' → record { end = end; room = room' } ≡ report_written room r
 report_written_lem r p = rw (p.ends, p.holds, zero-add, placed_front) refl
 
-pub written_within : (r : Report) (room : List ℕ) {end : ℕ} {room' : List ℕ} → record { end = end; room = room' } ≡ report_written room r → end ≤ length room'
+pub written_within : (r : Reply Report) (room : List ℕ) {end : ℕ} {room' : List ℕ} → record { end = end; room = room' } ≡ report_written room r → end ≤ length room'
 written_within r room e =
     let ends = ap (λ (w : WrittenReport). w.end) e in
     let holds = ap (λ (w : WrittenReport). length w.room) e in

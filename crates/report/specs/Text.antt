@@ -1,11 +1,11 @@
 -- The text of a report.
 use Rattle.std.specs.Prelude.{ℕ, List, ◌++◌}
+use Rattle.refusal.specs.Result.{Reply, Ok, Err}
 use Rattle.refusal.specs.SubjectWords.{ascii}
 use Rattle.judge.specs.declared.Overall.{Overall}
 use Rattle.judge.specs.declared.Overall.TheVariants.{Satisfied, Violated, Disregarded}
 use Rattle.tables.specs.declared.Tally.{Tally}
 use Rattle.tables.specs.declared.Report.{Report}
-use Rattle.tables.specs.declared.Report.TheVariants.{Tallied, Refused}
 use Rattle.printing.specs.Digits.{counted}
 use Rattle.printing.specs.RefusalText.{refusal_text}
 
@@ -24,6 +24,6 @@ tally_text t =
     ++ counted (ascii " disregarded ") t.disregarded
 
 -- two lines; or the one line of a refusal
-unfoldable pub report_text : Report → List ℕ
-report_text (Tallied overall tally) = overall_text overall ++ ascii "\n" ++ tally_text tally ++ ascii "\n"
-report_text (Refused r) = refusal_text r ++ ascii "\n"
+unfoldable pub report_text : Reply Report → List ℕ
+report_text (Ok report) = overall_text report.overall ++ ascii "\n" ++ tally_text report.tally ++ ascii "\n"
+report_text (Err r) = refusal_text r ++ ascii "\n"

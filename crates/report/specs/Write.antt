@@ -1,5 +1,6 @@
 -- What the call that writes a report answers, and what it leaves in the room.
 use Rattle.std.specs.Prelude.{ℕ, List, ◌++◌, length, drop}
+use Rattle.refusal.specs.Result.{Reply}
 use Rattle.tables.specs.declared.Report.{Report}
 use Rattle.report.specs.Text.{report_text}
 
@@ -8,6 +9,6 @@ pub record WrittenReport : Type 0 where
   pub end : ℕ
   pub room : List ℕ
 
--- WRITE A REPORT: the contract of the call. The text stands in front of what was behind it
-abbrev pub report_written : List ℕ → Report → WrittenReport
-report_written room report = record { end = length (report_text report); room = report_text report ++ drop (length (report_text report)) room }
+-- WRITE A REPORT or a refusal: the contract of the call. The text stands in front of what was behind it
+abbrev pub report_written : List ℕ → Reply Report → WrittenReport
+report_written room reply = record { end = length (report_text reply); room = report_text reply ++ drop (length (report_text reply)) room }

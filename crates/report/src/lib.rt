@@ -1,9 +1,8 @@
 // The text of a report, put into a lent room.
 #![tactic(auto)]
 
-ghost use Rattle.std.specs.Prelude.{◌+◌, ◌≤◌, ◌≡◌, length};
+ghost use Rattle.std.specs.Prelude.{◌+◌, ◌≤◌, ◌≡◌, length, Ok, Err};
 ghost use Rattle.printing.specs.Room.{Put};
-ghost use Rattle.tables.specs.declared.Report.TheVariants.{Tallied as TheTallied, Refused as TheRefused};
 ghost use Rattle.tables.specs.Report.{report_outcome};
 ghost use Rattle.report.specs.Text.{overall_text, tally_text, report_text};
 ghost use Rattle.report.specs.Write.{report_written};
@@ -42,31 +41,31 @@ fn put_tally(tally: Tally, room: &mut [u8], at: usize) -> usize
     put_count(b" disregarded ", tally.disregarded as u64, room, violated)
 }
 
-fn put_tallied(overall: Overall, tally: Tally, room: &mut [u8]) -> usize
-    requires { length (report_text (TheTallied overall tally)) ≤ length room.old }
-    ensures { Put (report_text (TheTallied overall tally)) room.old 0 result room.new }
+fn put_report(report: Report, room: &mut [u8]) -> usize
+    requires { length (report_text (Ok report)) ≤ length room.old }
+    ensures { Put (report_text (Ok report)) room.old 0 result room.new }
 {
-    let first = put_overall(overall, room, 0);
+    let first = put_overall(report.overall, room, 0);
     let second = put_byte(b'\n', room, first);
-    let end = put_tally(tally, room, second);
+    let end = put_tally(report.tally, room, second);
     put_byte(b'\n', room, end)
 }
 
 fn put_refused(refusal: Refusal, room: &mut [u8]) -> usize
-    requires { length (report_text (TheRefused refusal)) ≤ length room.old }
-    ensures { Put (report_text (TheRefused refusal)) room.old 0 result room.new }
+    requires { length (report_text (Err refusal)) ≤ length room.old }
+    ensures { Put (report_text (Err refusal)) room.old 0 result room.new }
 {
     let end = put_refusal(refusal, room, 0);
     put_byte(b'\n', room, end)
 }
 
-// Writes a report, and answers its length. There is room for any.
-pub fn write_report(report: Report, room: &mut [u8; REPORT_BYTES]) -> usize
-    ensures { record { end = result; room = room.new } ≡ report_written room.old report }
+// Writes a report or the refusal, and answers its length. There is room for any.
+pub fn write_report(reply: Result<Report, Refusal>, room: &mut [u8; REPORT_BYTES]) -> usize
+    ensures { record { end = result; room = room.new } ≡ report_written room.old reply }
 {
-    match report {
-        Report::Tallied(overall, tally) => put_tallied(overall, tally, room),
-        Report::Refused(refusal) => put_refused(refusal, room),
+    match reply {
+        Ok(report) => put_report(report, room),
+        Err(refusal) => put_refused(refusal, room),
     }
 }
 

@@ -30,4 +30,4 @@ hex_turn text n i end h k =
 
 pub hex_end : (text : List ℕ) (n i end : ℕ) → end ≤ i → hex_after n (take (end - i) (drop i text)) ≡ n
 unfolding hex_after
-hex_end text n i end h = let none : end - i ≡ 0 = omega arith in rw none
+hex_end text n i end h = let None : end - i ≡ 0 = omega arith in rw None

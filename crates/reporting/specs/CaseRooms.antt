@@ -1,8 +1,6 @@
 -- The cases that the programs have room for.
 use Rattle.std.specs.Prelude.{ℕ, ◌≤◌}
 use Rattle.reporting.specs.declared.cases.Sizes.{Sizes}
-use Rattle.reporting.specs.declared.cases.NextCase.{NextCase}
-use Rattle.reporting.specs.declared.cases.NextCase.TheVariants.{Case, End}
 
 -- the bytes of a file, and the entries of the three tables, at most
 abbrev pub case_bytes : ℕ
@@ -24,7 +22,3 @@ pub record Fitted (s : Sizes) : Type 0 where
   pub values : s.values ≤ case_values
   pub verdicts : s.verdicts ≤ case_verdicts
   pub results : s.results ≤ case_results
-
-abbrev pub Roomy : NextCase → Type 0
-Roomy (Case s) = Fitted s
-Roomy End = Unit {0}

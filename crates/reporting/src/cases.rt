@@ -1,8 +1,8 @@
 // Cases of two files and three tables, as the input has them: a line of 47 bytes, and the bytes of the files.
 // The line has a letter and five numbers of eight hexadecimal digits: the lengths of the constraint file and of the answer, and the entries of the tables of values, verdicts and results.
-ghost use Rattle.std.specs.Prelude.{IfOk, IfErr, ◌≢◌};
+ghost use Rattle.std.specs.Prelude.{IfOk, IfErr, IfSome, ◌≢◌};
 ghost use Rattle.std.specs.IoError.{error_kind};
-ghost use Rattle.reporting.specs.CaseRooms.{Roomy};
+ghost use Rattle.reporting.specs.CaseRooms.{Fitted};
 
 use super::{hex, next_bytes};
 use std::io::{self, ErrorKind, Read};
@@ -43,12 +43,6 @@ pub struct Sizes {
     pub results: usize,
 }
 
-#[derive(Clone, Copy)]
-pub enum NextCase {
-    Case(Sizes),
-    End,
-}
-
 fn read_header(header: &[u8; HEADER]) -> Sizes {
     Sizes {
         constraint: hex(header, FIRST, FIRST + NUMBER) as usize,
@@ -60,31 +54,24 @@ fn read_header(header: &[u8; HEADER]) -> Sizes {
 }
 
 // The next case; none where none is left, or it is larger than the room for it. Only a failed read is an error.
-pub fn next_case<R: Read>(input: &mut R) -> io::Result<NextCase>
-    ensures ok { IfOk result Roomy }
+pub fn next_case<R: Read>(input: &mut R) -> io::Result<Option<Sizes>>
+    ensures ok { IfOk result (λ next. IfSome next Fitted) }
     ensures err { IfErr result (λ e. error_kind e ≢ ErrorKind.UnexpectedEof) }
 {
     let mut header = [0u8; HEADER];
     if !next_bytes(input, &mut header)? {
-        return Ok(NextCase::End);
+        return Ok(None);
     }
-    let s = read_header(&header);
-    if FILE < s.constraint {
-        return Ok(NextCase::End);
+    let sizes = read_header(&header);
+    if FILE < sizes.constraint
+        || FILE < sizes.answer
+        || VALUES < sizes.values
+        || VERDICTS < sizes.verdicts
+        || RESULTS < sizes.results
+    {
+        return Ok(None);
     }
-    if FILE < s.answer {
-        return Ok(NextCase::End);
-    }
-    if VALUES < s.values {
-        return Ok(NextCase::End);
-    }
-    if VERDICTS < s.verdicts {
-        return Ok(NextCase::End);
-    }
-    if RESULTS < s.results {
-        return Ok(NextCase::End);
-    }
-    Ok(NextCase::Case(s))
+    Ok(Some(sizes))
 }
 
 // Fills the bytes of both parts of a case from the input; false where it is too short.

@@ -7,6 +7,7 @@ ghost use Rattle.reporting.specs.Hex.{digit_value, hex_after};
 
 use printing::refusals::put_refusal;
 use refusal::Refusal;
+use std::fmt::Display;
 use std::io::{self, ErrorKind, Read, Write};
 
 pub mod cases;
@@ -53,6 +54,19 @@ pub fn print_refusal<W: Write>(output: &mut W, refusal: Refusal) -> io::Result<(
     output.write_all(&room[..n])
 }
 
+// Prints a word and the number behind it, or the refusal, and a line end.
+pub fn print_counted<W: Write>(
+    output: &mut W,
+    word: &[u8],
+    reply: Result<usize, Refusal>,
+) -> io::Result<()> {
+    match reply {
+        Ok(n) => print_count(output, word, n)?,
+        Err(refusal) => print_refusal(output, refusal)?,
+    }
+    output.write_all(b"\n")
+}
+
 // Fills the bytes from the input; false where it is too short, which is no error: those are failed reads.
 pub fn next_bytes<R: Read>(input: &mut R, bytes: &mut [u8]) -> io::Result<bool>
     ensures { IfErr result (λ e. error_kind e ≢ ErrorKind.UnexpectedEof) }
@@ -64,36 +78,29 @@ pub fn next_bytes<R: Read>(input: &mut R, bytes: &mut [u8]) -> io::Result<bool>
     }
 }
 
-// The entry behind one with the value v.
-fn next_entry(v: u64) -> u64 {
-    if v <= u64::MAX - STEP { v + STEP } else { v }
+// Fills a table: its first entry, and behind each what `next` makes of it.
+pub fn fill_by<T: Copy, F: Fn(T) -> T>(table: &mut [T], first: T, next: F)
+    requires { F.IsAlwaysCallable next }
+{
+    let mut v = first;
+    for entry in table.iter_mut() {
+        *entry = v;
+        v = next(v);
+    }
 }
 
 // Fills a table, so that each entry is told from the others.
 pub fn fill(table: &mut [u64]) {
-    let mut v = 0;
-    for entry in table.iter_mut() {
-        v = next_entry(v);
-        *entry = v;
-    }
-}
-
-// The entry behind one with the value v, downwards.
-fn lower_entry(v: u64) -> u64 {
-    if v >= STEP { v - STEP } else { v }
+    fill_by(table, STEP, |v| v.saturating_add(STEP));
 }
 
 // Fills a table from the largest word down, so that no entry is one of those that `fill` puts.
 pub fn fill_down(table: &mut [u64]) {
-    let mut v = u64::MAX;
-    for entry in table.iter_mut() {
-        *entry = v;
-        v = lower_entry(v);
-    }
+    fill_by(table, u64::MAX, |v| v.saturating_sub(STEP));
 }
 
 // Prints the entries of a table, a space behind each, and a line end.
-pub fn print_table<W: Write>(output: &mut W, table: &[u64]) -> io::Result<()> {
+pub fn print_table<W: Write, T: Display>(output: &mut W, table: &[T]) -> io::Result<()> {
     for entry in table {
         write!(output, "{entry} ")?;
     }

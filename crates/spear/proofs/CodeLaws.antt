@@ -3,7 +3,7 @@ use Prim.Native.Nat.{ℕ}
 use mathlib.Core.Path.{◌≡◌, refl, ap, sym, ◌∙◌}
 use mathlib.Core.List.{List}
 use native.Mathlib.Omega.{arith}
-use Rattle.refusal.specs.Result.{Result, accepted, refused}
+use Rattle.refusal.specs.Result.{Reply, Ok, Err}
 use Rattle.refusal.proofs.RefusesLaws.{Refuses, refuses_accepted, refuses_bind}
 use Rattle.constraint.specs.File.{File}
 use Rattle.judge.specs.declared.Overall.{Overall}
@@ -11,9 +11,7 @@ use Rattle.judge.specs.declared.Overall.TheVariants.{Satisfied, Violated, Disreg
 use Rattle.judge.specs.Judge.{fresh_verdicts, overall_of, overall_number}
 use Rattle.tables.specs.declared.Tally.{Tally}
 use Rattle.tables.specs.declared.Report.{Report}
-use Rattle.tables.specs.declared.Report.TheVariants.{Tallied, Refused}
 use Rattle.tables.specs.Report.{answering, reported, report_outcome}
-use Rattle.tables.specs.declared.CheckReply.TheVariants.{Checked}
 use Rattle.tables.specs.Check.{check_outcome}
 use Rattle.tables.proofs.SatisfiedLaws.{satisfied_exactly}
 use Rattle.tables.proofs.ReportedLaws.{reported_exactly}
@@ -29,17 +27,17 @@ zero_satisfied Satisfied e = refl
 zero_satisfied (Violated n) e = let z : ⊥ = omega arith in absurd z
 zero_satisfied (Disregarded n) e = let z : ⊥ = omega arith in absurd z
 
-zero_tallied : (r : Report) → code_of r ≡ 0 → (t : Tally) × (r ≡ Tallied Satisfied t)
-zero_tallied (Tallied o t) e = (t, ap (λ o. Tallied o t) (zero_satisfied o e))
-zero_tallied (Refused x) e = let z : ⊥ = omega arith in absurd z
+zero_reported : (r : Reply Report) → code_of r ≡ 0 → (t : Tally) × (r ≡ Ok (record { overall = Satisfied; tally = t }))
+zero_reported (Ok report) e = (report.tally, ap (λ o. Ok (record { overall = o; tally = report.tally })) (zero_satisfied report.overall e))
+zero_reported (Err x) e = let z : ⊥ = omega arith in absurd z
 
 pub zero_exactly : ZeroExactly
 zero_exactly constraint answer =
     let both = reported_exactly constraint answer in
-    (λ e. both.0 (zero_tallied (report_outcome constraint answer) e), λ s. ap code_of (both.1 s).1)
+    (λ e. both.0 (zero_reported (report_outcome constraint answer) e), λ s. ap code_of (both.1 s).1)
 
 -- ---- so is the kind 0
-zero_kind : (word : ℕ) → kind_in word ≡ 0 → check_in word ≡ Checked Satisfied
+zero_kind : (word : ℕ) → kind_in word ≡ 0 → check_in word ≡ Ok Satisfied
 zero_kind word e = rw e
 
 pub kind_zero_exactly : KindZeroExactly
@@ -57,9 +55,9 @@ module _ (constraint answer : List ℕ) where
       refuses_bind (answer_numbered f.variables answer) λ row.
       refuses_accepted
 
-  code_is : (r : Result (File × List ℕ)) → answering constraint answer ≡ r → IsCode (code_of (reported r))
-  code_is (accepted (f, row)) e = let s = overall_small (overall_of (fresh_verdicts f row)) in of_verdict (omega arith)
-  code_is (refused x) e = let h = answering_numbered.holds x e in of_refusal (omega (arith, h.least)) (omega (arith, h.most))
+  code_is : (r : Reply (File × List ℕ)) → answering constraint answer ≡ r → IsCode (code_of (reported r))
+  code_is (Ok (f, row)) e = let s = overall_small (overall_of (fresh_verdicts f row)) in of_verdict (omega arith)
+  code_is (Err x) e = let h = answering_numbered.holds x e in of_refusal (omega (arith, h.least)) (omega (arith, h.most))
 
 pub codes_are : CodesAre
 codes_are constraint answer = code_is constraint answer (answering constraint answer) refl

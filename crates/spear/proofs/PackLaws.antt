@@ -5,21 +5,17 @@ use mathlib.Core.Bool.{cond}
 use native.Mathlib.Omega.{arith}
 use lib.Dec.{eqb}
 use Rattle.refusal.specs.declared.Refusal.{Refusal}
+use Rattle.refusal.specs.declared.Fault.{Fault}
+use Rattle.refusal.specs.declared.Fault.TheVariants.{FileTooLong, ByteNotAllowed, UnknownLine, MisplacedLine, WrongVersion, WrongExpectation, TokenCount, Misspelt, NotAWidth, NumberTooLarge, OverLimit, NameTaken, NotDeclared, UnknownOperator, TypeRuleBroken, NoSolutionWord, NotSatisfiable, ValueDoesNotFit, SetTwice, NotSet, TooShort, NotSatisfied, NoSuchVariable, HeldDoesNotFit, WrongIndex}
+use Rattle.refusal.specs.Fault.{number_of}
+use Rattle.refusal.specs.Result.{Reply, Ok, Err}
 use Rattle.refusal.specs.declared.Subject.{Subject}
 use Rattle.refusal.specs.declared.Subject.TheVariants.{Constraint, Answer, Values, Verdicts, Output, Call, Starts, Lists, Results}
 use Rattle.judge.specs.declared.Overall.{Overall}
 use Rattle.judge.specs.declared.Overall.TheVariants.{Satisfied, Violated, Disregarded}
 use Rattle.judge.specs.Judge.{overall_number}
 use Rattle.moves.specs.declared.Effect.{Effect}
-use Rattle.tables.specs.declared.CheckReply.{CheckReply}
-use Rattle.tables.specs.declared.CheckReply.TheVariants.{Checked, Refused as CheckRefused}
-use Rattle.printing.specs.declared.WriteReply.{WriteReply}
-use Rattle.printing.specs.declared.WriteReply.TheVariants.{Written, Refused as WriteRefused}
-use Rattle.index.specs.declared.IndexReply.{IndexReply}
-use Rattle.index.specs.declared.IndexReply.TheVariants.{Indexed, Refused as IndexRefused}
-use Rattle.moves.specs.declared.ChangeReply.{ChangeReply}
-use Rattle.moves.specs.declared.ChangeReply.TheVariants.{Changed, Refused}
-use Rattle.spear.specs.Pack.{verdict_word, refusal_word, done_word, deciding_line, subject_number, pack_refusal, pack_check, pack_change, pack_write, pack_index, kind_refused, kind_done, bits_from, kind_in, overall_in, subject_in, refusal_in, check_in, change_in, write_in, index_in}
+use Rattle.spear.specs.Pack.{verdict_word, refusal_word, done_word, deciding_line, subject_number, pack_refusal, pack_check, pack_change, pack_count, kind_refused, kind_done, bits_from, kind_in, overall_in, fault_in, subject_in, refusal_in, check_in, change_in, count_in}
 
 -- ---- the parts of a word are the numbers it was made of
 pub record VerdictParts (word kind line named altered bits : ℕ) : Type 0 where
@@ -51,7 +47,7 @@ done_parts : (n : ℕ) → n < 2 ^ 56 → DoneParts (done_word n) n
 unfolding done_word
 done_parts n h = record { kind_in_lem = omega arith; length_in = omega arith }
 
--- ---- an overall verdict by its number and its line, a subject by its number
+-- ---- an overall verdict by its number and its line, a fault and a subject by their numbers
 pub overall_small : (o : Overall) → overall_number o < 3
 overall_small Satisfied = omega arith
 overall_small (Violated n) = omega arith
@@ -66,6 +62,60 @@ no_refusal : {A : Type 0} (o : Overall) (word : ℕ) (x y : A) → kind_in word 
 no_refusal Satisfied word x y k = rw k
 no_refusal (Violated n) word x y k = rw k
 no_refusal (Disregarded n) word x y k = rw k
+
+fault_small : (f : Fault) → number_of f < 2 ^ 8
+fault_small FileTooLong = omega arith
+fault_small ByteNotAllowed = omega arith
+fault_small UnknownLine = omega arith
+fault_small MisplacedLine = omega arith
+fault_small WrongVersion = omega arith
+fault_small WrongExpectation = omega arith
+fault_small TokenCount = omega arith
+fault_small Misspelt = omega arith
+fault_small NotAWidth = omega arith
+fault_small NumberTooLarge = omega arith
+fault_small OverLimit = omega arith
+fault_small NameTaken = omega arith
+fault_small NotDeclared = omega arith
+fault_small UnknownOperator = omega arith
+fault_small TypeRuleBroken = omega arith
+fault_small NoSolutionWord = omega arith
+fault_small NotSatisfiable = omega arith
+fault_small ValueDoesNotFit = omega arith
+fault_small SetTwice = omega arith
+fault_small NotSet = omega arith
+fault_small TooShort = omega arith
+fault_small NotSatisfied = omega arith
+fault_small NoSuchVariable = omega arith
+fault_small HeldDoesNotFit = omega arith
+fault_small WrongIndex = omega arith
+
+fault_back : (f : Fault) → fault_in (number_of f) ≡ f
+fault_back FileTooLong = refl
+fault_back ByteNotAllowed = refl
+fault_back UnknownLine = refl
+fault_back MisplacedLine = refl
+fault_back WrongVersion = refl
+fault_back WrongExpectation = refl
+fault_back TokenCount = refl
+fault_back Misspelt = refl
+fault_back NotAWidth = refl
+fault_back NumberTooLarge = refl
+fault_back OverLimit = refl
+fault_back NameTaken = refl
+fault_back NotDeclared = refl
+fault_back UnknownOperator = refl
+fault_back TypeRuleBroken = refl
+fault_back NoSolutionWord = refl
+fault_back NotSatisfiable = refl
+fault_back ValueDoesNotFit = refl
+fault_back SetTwice = refl
+fault_back NotSet = refl
+fault_back TooShort = refl
+fault_back NotSatisfied = refl
+fault_back NoSuchVariable = refl
+fault_back HeldDoesNotFit = refl
+fault_back WrongIndex = refl
 
 subject_small : (s : Subject) → subject_number s < 2 ^ 8
 subject_small Constraint = omega arith
@@ -91,15 +141,14 @@ subject_back Results = refl
 
 -- ---- a refusal in range
 pub record RefusalFits (r : Refusal) : Type 0 where
-  pub number : r.number < 2 ^ 8
   pub position : r.position < 2 ^ 40
 
 module _ (r : Refusal) (h : RefusalFits r) where
-  parts : RefusalParts (pack_refusal r) r.number (subject_number r.subject) r.position
-  parts = refusal_parts r.number (subject_number r.subject) r.position h.number (subject_small r.subject) h.position
+  parts : RefusalParts (pack_refusal r) (number_of r.fault) (subject_number r.subject) r.position
+  parts = refusal_parts (number_of r.fault) (subject_number r.subject) r.position (fault_small r.fault) (subject_small r.subject) h.position
 
   refusal_back : refusal_in (pack_refusal r) ≡ r
-  refusal_back = rw (parts.number_in, parts.subject_in_lem, parts.position_in, subject_back r.subject)
+  refusal_back = rw (parts.number_in, parts.subject_in_lem, parts.position_in, fault_back r.fault, subject_back r.subject)
 
 -- ---- a reply in range
 pub record EffectFits (e : Effect) : Type 0 where
@@ -108,42 +157,34 @@ pub record EffectFits (e : Effect) : Type 0 where
   pub altered : e.altered < 2 ^ 16
   pub bits : e.bits < 2 ^ 8
 
-abbrev pub CheckFits : CheckReply → Type 0
-CheckFits (Checked o) = deciding_line o < 2 ^ 16
-CheckFits (CheckRefused r) = RefusalFits r
+abbrev pub CheckFits : Reply Overall → Type 0
+CheckFits (Ok o) = deciding_line o < 2 ^ 16
+CheckFits (Err r) = RefusalFits r
 
-abbrev pub ChangeFits : ChangeReply → Type 0
-ChangeFits (Changed e) = EffectFits e
-ChangeFits (Refused r) = RefusalFits r
+abbrev pub ChangeFits : Reply Effect → Type 0
+ChangeFits (Ok e) = EffectFits e
+ChangeFits (Err r) = RefusalFits r
 
-abbrev pub WriteFits : WriteReply → Type 0
-WriteFits (Written n) = n < 2 ^ 56
-WriteFits (WriteRefused r) = RefusalFits r
-
-abbrev pub IndexFits : IndexReply → Type 0
-IndexFits (Indexed n) = n < 2 ^ 56
-IndexFits (IndexRefused r) = RefusalFits r
+abbrev pub CountFits : Reply ℕ → Type 0
+CountFits (Ok n) = n < 2 ^ 56
+CountFits (Err r) = RefusalFits r
 
 -- it is what its word unpacks to
-pub check_back : (reply : CheckReply) → CheckFits reply → check_in (pack_check reply) ≡ reply
-check_back (Checked o) h =
-    let word = pack_check (Checked o) in
+pub check_back : (reply : Reply Overall) → CheckFits reply → check_in (pack_check reply) ≡ reply
+check_back (Ok o) h =
+    let word = pack_check (Ok o) in
     let p = verdict_parts (overall_number o) (deciding_line o) 0 0 0 (overall_small o) h (omega arith) (omega arith) (omega arith) in
-    no_refusal o word _ _ p.kind_in_lem ∙ ap Checked (overall_back o word p.kind_in_lem p.line_in_lem)
-check_back (CheckRefused r) h = rw (parts r h).kind_in_lem (ap CheckRefused (refusal_back r h))
+    no_refusal o word _ _ p.kind_in_lem ∙ ap Ok (overall_back o word p.kind_in_lem p.line_in_lem)
+check_back (Err r) h = rw (parts r h).kind_in_lem (ap Err (refusal_back r h))
 
-pub change_back : (reply : ChangeReply) → ChangeFits reply → change_in (pack_change reply) ≡ reply
-change_back (Changed e) h =
-    let word = pack_change (Changed e) in
+pub change_back : (reply : Reply Effect) → ChangeFits reply → change_in (pack_change reply) ≡ reply
+change_back (Ok e) h =
+    let word = pack_change (Ok e) in
     let o = e.overall in
     let p = verdict_parts (overall_number o) (deciding_line o) e.named e.altered e.bits (overall_small o) h.line h.named h.altered h.bits in
     no_refusal o word _ _ p.kind_in_lem ∙ rw (overall_back o word p.kind_in_lem p.line_in_lem, p.named_in, p.altered_in, p.bits_in)
-change_back (Refused r) h = rw (parts r h).kind_in_lem (ap Refused (refusal_back r h))
+change_back (Err r) h = rw (parts r h).kind_in_lem (ap Err (refusal_back r h))
 
-pub write_back : (reply : WriteReply) → WriteFits reply → write_in (pack_write reply) ≡ reply
-write_back (Written n) h = let p = done_parts n h in rw p.kind_in_lem (ap Written p.length_in)
-write_back (WriteRefused r) h = rw (parts r h).kind_in_lem (ap WriteRefused (refusal_back r h))
-
-pub index_back : (reply : IndexReply) → IndexFits reply → index_in (pack_index reply) ≡ reply
-index_back (Indexed n) h = let p = done_parts n h in rw p.kind_in_lem (ap Indexed p.length_in)
-index_back (IndexRefused r) h = rw (parts r h).kind_in_lem (ap IndexRefused (refusal_back r h))
+pub count_back : (reply : Reply ℕ) → CountFits reply → count_in (pack_count reply) ≡ reply
+count_back (Ok n) h = let p = done_parts n h in rw p.kind_in_lem (ap Ok p.length_in)
+count_back (Err r) h = rw (parts r h).kind_in_lem (ap Err (refusal_back r h))

@@ -2,14 +2,15 @@
 use Prim.Native.Nat.{ℕ, ◌≤◌, ◌<◌, ◌^◌}
 use mathlib.Core.Path.{◌≡◌}
 use mathlib.Core.List.{List}
-use mathlib.Core.Option.{Option, none, some}
+use Rattle.std.specs.Prelude.{Option, None, Some}
 use native.Mathlib.Omega.{arith}
 use lib.Dec.{ltb, leb}
 use lib.ListN.{length, length-take}
 use Rattle.refusal.specs.declared.Refusal.{Refusal}
 use Rattle.refusal.specs.declared.Subject.{Subject}
 use Rattle.refusal.specs.declared.Subject.TheVariants.{Values, Verdicts, Output, Call as CallsNumbers, Starts, Lists, Results}
-use Rattle.refusal.specs.Numbers.{value_does_not_fit, too_short, not_satisfied, no_such_variable, held_does_not_fit, wrong_index}
+use Rattle.refusal.specs.declared.Fault.{Fault}
+use Rattle.refusal.specs.declared.Fault.TheVariants.{ValueDoesNotFit, TooShort, NotSatisfied, NoSuchVariable, HeldDoesNotFit, WrongIndex}
 use Rattle.refusal.specs.Lists.{first_from}
 use Rattle.refusal.specs.Result.{refusal}
 use Rattle.refusal.proofs.ListLaws.{first_below}
@@ -37,7 +38,7 @@ use Rattle.spear.proofs.MostLaws.{zip_most}
 
 -- ---- the two files
 number_fits : (r : Refusal) → FileNumber r → RefusalFits r
-number_fits r h = record { number = omega (arith, h.most); position = omega (arith, h.position) }
+number_fits r h = record { position = omega (arith, h.position) }
 
 pub file_fits : (constraint : List ℕ) → Refuses RefusalFits (read_file constraint)
 file_fits constraint = refuses_also number_fits (file_numbered constraint)
@@ -46,13 +47,13 @@ answer_fits : (xs : List Variable) (answer : List ℕ) → Refuses RefusalFits (
 answer_fits xs answer = refuses_also number_fits (answer_numbered xs answer)
 
 -- ---- the check
--- a refusal with a small number, at the start of what it speaks of
-at_start : (s : Subject) (n : ℕ) → n < 2 ^ 8 → RefusalFits (refusal s n 0)
-at_start s n h = record { number = h; position = omega arith }
+-- a refusal at the start of what it speaks of
+at_start : (s : Subject) (f : Fault) → RefusalFits (refusal s f 0)
+at_start s f = record { position = omega arith }
 
 -- the room of the tables
 tables_fit : (f : File) (lent : Room) → Refuses RefusalFits (tables_room f lent)
-tables_fit f lent = room_refuses f lent (at_start Values too_short (omega arith)) (at_start Verdicts too_short (omega arith)) (at_start Results too_short (omega arith))
+tables_fit f lent = room_refuses f lent (at_start Values TooShort) (at_start Verdicts TooShort) (at_start Results TooShort)
 
 pub checking_fits : (constraint answer : List ℕ) (lent : Room) → Refuses RefusalFits (checking constraint answer lent)
 unfolding checking checking_for
@@ -67,14 +68,14 @@ checking_fits constraint answer lent =
 numbers_fit_lem : (f : File) (c : Change) → Refuses RefusalFits (change_fits f c)
 unfolding change_fits
 numbers_fit_lem f c =
-    refuses_ensure (ltb c.variable (length f.variables)) _ (at_start CallsNumbers no_such_variable (omega arith))
-    (refuses_test (ltb c.value (2 ^ width_at f.variables c.variable)) _ (at_start CallsNumbers value_does_not_fit (omega arith)))
+    refuses_ensure (ltb c.variable (length f.variables)) _ (at_start CallsNumbers NoSuchVariable)
+    (refuses_test (ltb c.value (2 ^ width_at f.variables c.variable)) _ (at_start CallsNumbers ValueDoesNotFit))
 
 index_fits_lem : (f : File) (x : Option Index) → Refuses RefusalFits (index_fits f x)
-index_fits_lem f none = refuses_accepted
-index_fits_lem f (some x) =
-    refuses_ensure (starts_fit (length f.variables) x) _ (at_start Starts wrong_index (omega arith))
-    (refuses_test (lists_fit (length f.variables) (length f.lines) x) _ (at_start Lists wrong_index (omega arith)))
+index_fits_lem f None = refuses_accepted
+index_fits_lem f (Some x) =
+    refuses_ensure (starts_fit (length f.variables) x) _ (at_start Starts WrongIndex)
+    (refuses_test (lists_fit (length f.variables) (length f.lines) x) _ (at_start Lists WrongIndex))
 
 -- no more values are held than there are variables
 held_most : (xs : List Variable) (values : List ℕ) → length (value_words xs values) ≤ length xs
@@ -83,21 +84,21 @@ held_most xs values = zip_most _ xs values
 
 module _ (f : File) (sound : SoundFile f) (values verdicts : List ℕ) where
   -- the first entry that does not fit is one of those in use
-  unfit_place : (i : ℕ) → first_unfit f.variables (row_in_use f values) ≡ some i → RefusalFits (refusal Values held_does_not_fit i)
+  unfit_place : (i : ℕ) → first_unfit f.variables (row_in_use f values) ≡ Some i → RefusalFits (refusal Values HeldDoesNotFit i)
   unfolding first_unfit
-  unfit_place i e = record { number = omega arith; position = omega (arith, first_below unfit 0 i (value_words f.variables (row_in_use f values)) e, held_most f.variables (row_in_use f values), sound.few_variables) }
+  unfit_place i e = record { position = omega (arith, first_below unfit 0 i (value_words f.variables (row_in_use f values)) e, held_most f.variables (row_in_use f values), sound.few_variables) }
 
-  verdict_place : (i : ℕ) → first_from (ltb verdict_disregarded) 0 (column_in_use f verdicts) ≡ some i → RefusalFits (refusal Verdicts held_does_not_fit i)
-  verdict_place i e = record { number = omega arith; position = omega (arith, first_below (ltb verdict_disregarded) 0 i (column_in_use f verdicts) e, length-take (length f.lines) verdicts, sound.few_lines) }
+  verdict_place : (i : ℕ) → first_from (ltb verdict_disregarded) 0 (column_in_use f verdicts) ≡ Some i → RefusalFits (refusal Verdicts HeldDoesNotFit i)
+  verdict_place i e = record { position = omega (arith, first_below (ltb verdict_disregarded) 0 i (column_in_use f verdicts) e, length-take (length f.lines) verdicts, sound.few_lines) }
 
   -- ---- the writing of an answer
   pub writing_fits : (output : List ℕ) → Refuses RefusalFits (writing_for f values output)
   unfolding writing_for
   writing_fits output =
-      refuses_ensure (leb (length f.variables) (length values)) _ (at_start Values too_short (omega arith)) (
+      refuses_ensure (leb (length f.variables) (length values)) _ (at_start Values TooShort) (
       refuses_then (refuses_none (first_unfit f.variables (row_in_use f values)) _ unfit_place) (
-      refuses_ensure (is_satisfied (overall_of (fresh_verdicts f (row_in_use f values)))) _ (at_start Values not_satisfied (omega arith)) (
-      refuses_ensure (leb (length (answer_text f.variables (row_in_use f values))) (length output)) _ (at_start Output too_short (omega arith))
+      refuses_ensure (is_satisfied (overall_of (fresh_verdicts f (row_in_use f values)))) _ (at_start Values NotSatisfied) (
+      refuses_ensure (leb (length (answer_text f.variables (row_in_use f values))) (length output)) _ (at_start Output TooShort)
       refuses_accepted)))
 
 -- ---- the change
@@ -114,8 +115,8 @@ pub indexing_fits : (constraint starts lists : List ℕ) → Refuses RefusalFits
 unfolding indexing
 indexing_fits constraint starts lists =
     refuses_bind (file_fits constraint) λ f.
-    refuses_ensure (leb (length (own_index f).starts) (length starts)) _ (at_start Starts too_short (omega arith)) (
-    refuses_ensure (leb (length (own_index f).lists) (length lists)) _ (at_start Lists too_short (omega arith))
+    refuses_ensure (leb (length (own_index f).starts) (length starts)) _ (at_start Starts TooShort) (
+    refuses_ensure (leb (length (own_index f).lists) (length lists)) _ (at_start Lists TooShort)
     refuses_accepted)
 
 -- ---- the cleaning
@@ -123,5 +124,5 @@ pub cleaning_fits : (constraint output : List ℕ) → Refuses RefusalFits (clea
 unfolding cleaning
 cleaning_fits constraint output =
     refuses_bind (file_fits constraint) λ f.
-    refuses_ensure (leb (length (clean_text f)) (length output)) _ (at_start Output too_short (omega arith))
+    refuses_ensure (leb (length (clean_text f)) (length output)) _ (at_start Output TooShort)
     refuses_accepted

@@ -1,15 +1,16 @@
 -- The one number that a C program gets: "0 satisfied, 1 violated, 2 disregarded, or 100 plus the refusal number".
 use Rattle.std.specs.Prelude.{ℕ, ◌+◌, ◌≤◌, ◌≡◌, ◌↔◌, List}
+use Rattle.refusal.specs.Fault.{number_of}
+use Rattle.refusal.specs.Result.{Reply, Ok, Err}
 use Rattle.judge.specs.Judge.{overall_number}
 use Rattle.tables.specs.declared.Report.{Report}
-use Rattle.tables.specs.declared.Report.TheVariants.{Tallied, Refused}
 use Rattle.tables.specs.Report.{report_outcome}
 use Rattle.tables.specs.Claims.{Satisfies, any_room}
 
--- the number of a report
-abbrev pub code_of : Report → ℕ
-code_of (Tallied o t) = overall_number o
-code_of (Refused r) = 100 + r.number
+-- the number of a report or a refusal
+abbrev pub code_of : Reply Report → ℕ
+code_of (Ok report) = overall_number report.overall
+code_of (Err r) = 100 + number_of r.fault
 
 -- SPEAR_CHECK: the contract of the call
 abbrev pub check_code : List ℕ → List ℕ → ℕ

@@ -1,27 +1,22 @@
 -- One 64-bit word for a whole reply: what the calls on a caller's tables answer to a C program.
-use Rattle.std.specs.Prelude.{ℕ, ◌+◌, ◌*◌, ◌/◌, ◌%◌, ◌^◌, ◌≡◌, cond, ◌↔◌, List, eqb}
+use Rattle.std.specs.Prelude.{ℕ, ◌+◌, ◌-◌, ◌*◌, ◌/◌, ◌%◌, ◌^◌, ◌≡◌, cond, ◌↔◌, List, [], ◌∷◌, eqb, get_or}
 use Rattle.refusal.specs.declared.Refusal.{Refusal}
+use Rattle.refusal.specs.declared.Fault.{Fault}
+use Rattle.refusal.specs.declared.Fault.TheVariants.{FileTooLong, ByteNotAllowed, UnknownLine, MisplacedLine, WrongVersion, WrongExpectation, TokenCount, Misspelt, NotAWidth, NumberTooLarge, OverLimit, NameTaken, NotDeclared, UnknownOperator, TypeRuleBroken, NoSolutionWord, NotSatisfiable, ValueDoesNotFit, SetTwice, NotSet, TooShort, NotSatisfied, NoSuchVariable, HeldDoesNotFit, WrongIndex}
 use Rattle.refusal.specs.declared.Subject.{Subject}
 use Rattle.refusal.specs.declared.Subject.TheVariants.{Constraint, Answer, Values, Verdicts, Output, Call, Starts, Lists, Results}
-use Rattle.refusal.specs.Result.{refusal}
+use Rattle.refusal.specs.Fault.{number_of}
+use Rattle.refusal.specs.Result.{Reply, Ok, Err, refusal}
 use Rattle.judge.specs.Judge.{overall_number}
 use Rattle.judge.specs.declared.Overall.{Overall}
 use Rattle.judge.specs.declared.Overall.TheVariants.{Satisfied, Violated, Disregarded}
 use Rattle.judge.specs.InUse.{Tables, room_of}
 use Rattle.moves.specs.declared.Effect.{Effect}
-use Rattle.tables.specs.declared.CheckReply.{CheckReply}
-use Rattle.tables.specs.declared.CheckReply.TheVariants.{Checked, Refused as CheckRefused}
-use Rattle.moves.specs.declared.ChangeReply.{ChangeReply}
-use Rattle.moves.specs.declared.ChangeReply.TheVariants.{Changed, Refused}
-use Rattle.printing.specs.declared.WriteReply.{WriteReply}
-use Rattle.printing.specs.declared.WriteReply.TheVariants.{Written, Refused as WriteRefused}
 use Rattle.printing.specs.Output.{WriteOutcome}
 use Rattle.writer.specs.Write.{write_outcome}
 use Rattle.tables.specs.Check.{CheckOutcome, check_outcome}
 use Rattle.tables.specs.Claims.{Satisfies}
 use Rattle.clean.specs.Clean.{clean_outcome}
-use Rattle.index.specs.declared.IndexReply.{IndexReply}
-use Rattle.index.specs.declared.IndexReply.TheVariants.{Indexed, Refused as IndexRefused}
 use Rattle.index.specs.Index.{IndexOutcome, index_outcome}
 use Rattle.moves.specs.Gate.{Call as ChangeCall}
 use Rattle.moves.specs.Change.{Outcome, change_outcome}
@@ -67,23 +62,20 @@ subject_number Lists = 7
 subject_number Results = 8
 
 abbrev pub pack_refusal : Refusal → ℕ
-pack_refusal r = refusal_word r.number (subject_number r.subject) r.position
+pack_refusal r = refusal_word (number_of r.fault) (subject_number r.subject) r.position
 
-abbrev pub pack_check : CheckReply → ℕ
-pack_check (Checked o) = verdict_word (overall_number o) (deciding_line o) 0 0 0
-pack_check (CheckRefused r) = pack_refusal r
+abbrev pub pack_check : Reply Overall → ℕ
+pack_check (Ok o) = verdict_word (overall_number o) (deciding_line o) 0 0 0
+pack_check (Err r) = pack_refusal r
 
-abbrev pub pack_change : ChangeReply → ℕ
-pack_change (Changed e) = verdict_word (overall_number e.overall) (deciding_line e.overall) e.named e.altered e.bits
-pack_change (Refused r) = pack_refusal r
+abbrev pub pack_change : Reply Effect → ℕ
+pack_change (Ok e) = verdict_word (overall_number e.overall) (deciding_line e.overall) e.named e.altered e.bits
+pack_change (Err r) = pack_refusal r
 
-abbrev pub pack_write : WriteReply → ℕ
-pack_write (Written n) = done_word n
-pack_write (WriteRefused r) = pack_refusal r
-
-abbrev pub pack_index : IndexReply → ℕ
-pack_index (Indexed n) = done_word n
-pack_index (IndexRefused r) = pack_refusal r
+-- of a text that is written, and of an index that is built
+abbrev pub pack_count : Reply ℕ → ℕ
+pack_count (Ok n) = done_word n
+pack_count (Err r) = pack_refusal r
 
 -- UNPACKING, as the macros of the header do it
 
@@ -97,26 +89,35 @@ kind_in word = bits_from word 0 8
 abbrev pub overall_in : ℕ → Overall
 overall_in word = cond (eqb (kind_in word) 0) Satisfied (cond (eqb (kind_in word) 1) (Violated (bits_from word 8 16)) (Disregarded (bits_from word 8 16)))
 
+-- the fault of a number, from 1, and the subject of one
+abbrev pub faults : List Fault
+faults =
+    FileTooLong ∷ ByteNotAllowed ∷ UnknownLine ∷ MisplacedLine ∷ WrongVersion
+    ∷ WrongExpectation ∷ TokenCount ∷ Misspelt ∷ NotAWidth ∷ NumberTooLarge
+    ∷ OverLimit ∷ NameTaken ∷ NotDeclared ∷ UnknownOperator ∷ TypeRuleBroken
+    ∷ NoSolutionWord ∷ NotSatisfiable ∷ ValueDoesNotFit ∷ SetTwice ∷ NotSet
+    ∷ TooShort ∷ NotSatisfied ∷ NoSuchVariable ∷ HeldDoesNotFit ∷ WrongIndex ∷ []
+
+abbrev pub fault_in : ℕ → Fault
+fault_in n = get_or faults (n - 1) WrongIndex
+
 abbrev pub subject_in : ℕ → Subject
 subject_in n = cond (eqb n 0) Constraint (cond (eqb n 1) Answer (cond (eqb n 2) Values (cond (eqb n 3) Verdicts (cond (eqb n 4) Output (cond (eqb n 5) Call (cond (eqb n 6) Starts (cond (eqb n 7) Lists Results)))))))
 
 abbrev pub refusal_in : ℕ → Refusal
-refusal_in word = refusal (subject_in (bits_from word 16 8)) (bits_from word 8 8) (bits_from word 24 40)
+refusal_in word = refusal (subject_in (bits_from word 16 8)) (fault_in (bits_from word 8 8)) (bits_from word 24 40)
 
 abbrev pub effect_in : ℕ → Effect
 effect_in word = record { overall = overall_in word; named = bits_from word 24 16; altered = bits_from word 40 16; bits = bits_from word 56 8 }
 
-abbrev pub check_in : ℕ → CheckReply
-check_in word = cond (eqb (kind_in word) kind_refused) (CheckRefused (refusal_in word)) (Checked (overall_in word))
+abbrev pub check_in : ℕ → Reply Overall
+check_in word = cond (eqb (kind_in word) kind_refused) (Err (refusal_in word)) (Ok (overall_in word))
 
-abbrev pub change_in : ℕ → ChangeReply
-change_in word = cond (eqb (kind_in word) kind_refused) (Refused (refusal_in word)) (Changed (effect_in word))
+abbrev pub change_in : ℕ → Reply Effect
+change_in word = cond (eqb (kind_in word) kind_refused) (Err (refusal_in word)) (Ok (effect_in word))
 
-abbrev pub write_in : ℕ → WriteReply
-write_in word = cond (eqb (kind_in word) kind_refused) (WriteRefused (refusal_in word)) (Written (bits_from word 8 56))
-
-abbrev pub index_in : ℕ → IndexReply
-index_in word = cond (eqb (kind_in word) kind_refused) (IndexRefused (refusal_in word)) (Indexed (bits_from word 8 56))
+abbrev pub count_in : ℕ → Reply ℕ
+count_in word = cond (eqb (kind_in word) kind_refused) (Err (refusal_in word)) (Ok (bits_from word 8 56))
 
 -- NOTHING IS LOST
 
@@ -128,13 +129,13 @@ abbrev pub ChangeKept : Type 0
 ChangeKept = (constraint : List ℕ) (t : Tables) (c : ChangeCall) → change_in (pack_change (change_outcome constraint t c).reply) ≡ (change_outcome constraint t c).reply
 
 abbrev pub IndexKept : Type 0
-IndexKept = (constraint starts lists : List ℕ) → index_in (pack_index (index_outcome constraint starts lists).reply) ≡ (index_outcome constraint starts lists).reply
+IndexKept = (constraint starts lists : List ℕ) → count_in (pack_count (index_outcome constraint starts lists).reply) ≡ (index_outcome constraint starts lists).reply
 
 abbrev pub CleanKept : Type 0
-CleanKept = (constraint output : List ℕ) → write_in (pack_write (clean_outcome constraint output).reply) ≡ (clean_outcome constraint output).reply
+CleanKept = (constraint output : List ℕ) → count_in (pack_count (clean_outcome constraint output).reply) ≡ (clean_outcome constraint output).reply
 
 abbrev pub WriteKept : Type 0
-WriteKept = (constraint values output : List ℕ) → write_in (pack_write (write_outcome constraint values output).reply) ≡ (write_outcome constraint values output).reply
+WriteKept = (constraint values output : List ℕ) → count_in (pack_count (write_outcome constraint values output).reply) ≡ (write_outcome constraint values output).reply
 
 -- DEMAND 2: the kind of a check's word is 0 exactly when the answer satisfies the constraint file and the tables are long enough
 abbrev pub KindZeroExactly : Type 0
@@ -160,7 +161,7 @@ pub record PackedIndex : Type 0 where
   pub lists : List ℕ
 
 abbrev pub packed_index : IndexOutcome → PackedIndex
-packed_index o = record { word = pack_index o.reply; starts = o.starts; lists = o.lists }
+packed_index o = record { word = pack_count o.reply; starts = o.starts; lists = o.lists }
 
 -- of a writer: the word and the output room at exit
 pub record PackedText : Type 0 where
@@ -168,4 +169,4 @@ pub record PackedText : Type 0 where
   pub output : List ℕ
 
 abbrev pub packed_write : WriteOutcome → PackedText
-packed_write o = record { word = pack_write o.reply; output = o.output }
+packed_write o = record { word = pack_count o.reply; output = o.output }

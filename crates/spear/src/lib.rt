@@ -1,8 +1,7 @@
 // The calls for C programs; spear_c exports them.
 #![tactic(auto)]
 
-ghost use Rattle.std.specs.Prelude.{◌≡◌};
-ghost use Rattle.std.proofs.Math.Option.{none, some};
+ghost use Rattle.std.specs.Prelude.{◌≡◌, None, Some};
 ghost use Rattle.judge.specs.InUse.{tables_of};
 ghost use Rattle.tables.specs.Check.{check_outcome};
 ghost use Rattle.writer.specs.Write.{write_outcome};
@@ -17,7 +16,8 @@ use clean::clean;
 use index::index;
 use judge::verdicts::overall_number;
 use moves::change::{change, change_through};
-use packing::{pack_change, pack_check, pack_index, pack_write};
+use packing::{pack_change, pack_check, pack_count};
+use refusal::Refusal;
 use tables::Report;
 use tables::check::check;
 use tables::reports::report;
@@ -29,12 +29,12 @@ mod packing;
 // What is added to a refusal's number.
 const REFUSED: u32 = 100;
 
-fn code_of(report: Report) -> u32
-    ensures { result ≡ code_of report }
+fn code_of(reply: Result<Report, Refusal>) -> u32
+    ensures { result ≡ code_of reply }
 {
-    match report {
-        Report::Tallied(overall, _) => overall_number(overall) as u32,
-        Report::Refused(refusal) => REFUSED + refusal.number as u32,
+    match reply {
+        Ok(report) => overall_number(report.overall) as u32,
+        Err(refusal) => REFUSED + refusal.fault.number() as u32,
     }
 }
 
@@ -67,7 +67,7 @@ pub fn spear_change(
     variable: usize,
     value: u64,
 ) -> u64
-    ensures { record { word = result; tables = tables_of values.new verdicts.new results.new } ≡ packed_change (change_outcome constraints.now (tables_of values.old verdicts.old results.old) (changing variable value none)) }
+    ensures { record { word = result; tables = tables_of values.new verdicts.new results.new } ≡ packed_change (change_outcome constraints.now (tables_of values.old verdicts.old results.old) (changing variable value None)) }
 {
     pack_change(change(constraints, values, verdicts, results, variable, value))
 }
@@ -76,7 +76,7 @@ pub fn spear_change(
 pub fn spear_index(constraints: &[u8], starts: &mut [u32], lists: &mut [u32]) -> u64
     ensures { record { word = result; starts = starts.new; lists = lists.new } ≡ packed_index (index_outcome constraints.now starts.old lists.old) }
 {
-    pack_index(index(constraints, starts, lists))
+    pack_count(index(constraints, starts, lists))
 }
 
 // The change through an index.
@@ -90,7 +90,7 @@ pub fn spear_change_through(
     variable: usize,
     value: u64,
 ) -> u64
-    ensures { record { word = result; tables = tables_of values.new verdicts.new results.new } ≡ packed_change (change_outcome constraints.now (tables_of values.old verdicts.old results.old) (changing variable value (some (index_of starts.now lists.now)))) }
+    ensures { record { word = result; tables = tables_of values.new verdicts.new results.new } ≡ packed_change (change_outcome constraints.now (tables_of values.old verdicts.old results.old) (changing variable value (Some (index_of starts.now lists.now)))) }
 {
     pack_change(change_through(
         constraints,
@@ -108,12 +108,12 @@ pub fn spear_change_through(
 pub fn spear_clean(constraints: &[u8], output: &mut [u8]) -> u64
     ensures { record { word = result; output = output.new } ≡ packed_write (clean_outcome constraints.now output.old) }
 {
-    pack_write(clean(constraints, output))
+    pack_count(clean(constraints, output))
 }
 
 // The answer with the caller's values, into the caller's room.
 pub fn spear_write(constraints: &[u8], values: &[u64], output: &mut [u8]) -> u64
     ensures { record { word = result; output = output.new } ≡ packed_write (write_outcome constraints.now values.now output.old) }
 {
-    pack_write(write(constraints, values, output))
+    pack_count(write(constraints, values, output))
 }

@@ -1,14 +1,11 @@
 // A reply as one word.
 ghost use Rattle.std.specs.Prelude.{◌≡◌, ◌<◌};
-ghost use Rattle.spear.specs.Pack.{verdict_word, refusal_word, done_word, deciding_line, subject_number, pack_refusal, pack_check, pack_change, pack_write, pack_index};
+ghost use Rattle.spear.specs.Pack.{verdict_word, refusal_word, done_word, deciding_line, pack_refusal, pack_check, pack_change, pack_count};
 
-use index::IndexReply;
 use judge::Overall;
 use judge::verdicts::overall_number;
-use moves::ChangeReply;
-use printing::WriteReply;
-use refusal::{Refusal, Subject};
-use tables::CheckReply;
+use moves::Effect;
+use refusal::Refusal;
 
 // The sizes of the parts: a byte, a number, a position, a length.
 const BYTE: u64 = 1 << 8;
@@ -67,74 +64,52 @@ fn deciding_line(overall: Overall) -> u64
     }
 }
 
-fn subject_number(subject: Subject) -> u64
-    ensures { result ≡ subject_number subject }
-{
-    match subject {
-        Subject::Constraint => 0,
-        Subject::Answer => 1,
-        Subject::Values => 2,
-        Subject::Verdicts => 3,
-        Subject::Output => 4,
-        Subject::Call => 5,
-        Subject::Starts => 6,
-        Subject::Lists => 7,
-        Subject::Results => 8,
-    }
-}
-
 fn pack_refusal(refusal: Refusal) -> u64
     ensures { result ≡ pack_refusal refusal }
 {
-    let subject = refusal.subject;
     refusal_word(
-        refusal.number as u64,
-        subject_number(subject),
+        refusal.fault.number() as u64,
+        refusal.subject as u64,
         refusal.position as u64,
     )
 }
 
-pub(crate) fn pack_check(reply: CheckReply) -> u64
+pub(crate) fn pack_check(reply: Result<Overall, Refusal>) -> u64
     ensures { result ≡ pack_check reply }
 {
     match reply {
-        CheckReply::Checked(o) => verdict_word(overall_number(o) as u64, deciding_line(o), 0, 0, 0),
-        CheckReply::Refused(r) => pack_refusal(r),
+        Ok(overall) => verdict_word(
+            overall_number(overall) as u64,
+            deciding_line(overall),
+            0,
+            0,
+            0,
+        ),
+        Err(refusal) => pack_refusal(refusal),
     }
 }
 
-pub(crate) fn pack_change(reply: ChangeReply) -> u64
+pub(crate) fn pack_change(reply: Result<Effect, Refusal>) -> u64
     ensures { result ≡ pack_change reply }
 {
     match reply {
-        ChangeReply::Changed(e) => {
-            let o = e.overall;
-            verdict_word(
-                overall_number(o) as u64,
-                deciding_line(o),
-                e.named as u64,
-                e.altered as u64,
-                e.bits,
-            )
-        }
-        ChangeReply::Refused(r) => pack_refusal(r),
+        Ok(effect) => verdict_word(
+            overall_number(effect.overall) as u64,
+            deciding_line(effect.overall),
+            effect.named as u64,
+            effect.altered as u64,
+            effect.bits,
+        ),
+        Err(refusal) => pack_refusal(refusal),
     }
 }
 
-pub(crate) fn pack_write(reply: WriteReply) -> u64
-    ensures { result ≡ pack_write reply }
+// Of a text that is written, its length; of an index that is built, how many lines are listed.
+pub(crate) fn pack_count(reply: Result<usize, Refusal>) -> u64
+    ensures { result ≡ pack_count reply }
 {
     match reply {
-        WriteReply::Written(n) => done_word(n as u64),
-        WriteReply::Refused(r) => pack_refusal(r),
-    }
-}
-
-pub(crate) fn pack_index(reply: IndexReply) -> u64
-    ensures { result ≡ pack_index reply }
-{
-    match reply {
-        IndexReply::Indexed(n) => done_word(n as u64),
-        IndexReply::Refused(r) => pack_refusal(r),
+        Ok(n) => done_word(n as u64),
+        Err(refusal) => pack_refusal(refusal),
     }
 }

@@ -1,8 +1,7 @@
 // The exports for C programs: each is the call of the library under the same contract. include/spear.h has their declarations.
 #![tactic(auto)]
 
-ghost use Rattle.std.specs.Prelude.{◌≡◌};
-ghost use Rattle.std.proofs.Math.Option.{none, some};
+ghost use Rattle.std.specs.Prelude.{◌≡◌, None, Some};
 ghost use Rattle.judge.specs.InUse.{tables_of};
 ghost use Rattle.tables.specs.Check.{check_outcome};
 ghost use Rattle.writer.specs.Write.{write_outcome};
@@ -45,7 +44,7 @@ pub extern "C" fn spear_change(
     variable: usize,
     value: u64,
 ) -> u64
-    ensures { record { word = result; tables = tables_of values.new verdicts.new results.new } ≡ packed_change (change_outcome constraints.now (tables_of values.old verdicts.old results.old) (changing variable value none)) }
+    ensures { record { word = result; tables = tables_of values.new verdicts.new results.new } ≡ packed_change (change_outcome constraints.now (tables_of values.old verdicts.old results.old) (changing variable value None)) }
 {
     spear::spear_change(constraints, values, verdicts, results, variable, value)
 }
@@ -70,7 +69,7 @@ pub extern "C" fn spear_change_through(
     variable: usize,
     value: u64,
 ) -> u64
-    ensures { record { word = result; tables = tables_of values.new verdicts.new results.new } ≡ packed_change (change_outcome constraints.now (tables_of values.old verdicts.old results.old) (changing variable value (some (index_of starts.now lists.now)))) }
+    ensures { record { word = result; tables = tables_of values.new verdicts.new results.new } ≡ packed_change (change_outcome constraints.now (tables_of values.old verdicts.old results.old) (changing variable value (Some (index_of starts.now lists.now)))) }
 {
     spear::spear_change_through(
         constraints,

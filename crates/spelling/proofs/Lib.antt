@@ -1,5 +1,5 @@
 -- Laws that belong to no one function.
-pub mod SpellingLaws
+pub mod SpeltLaws
+pub mod SymbolLaws
 pub mod ReservedLaws
 pub mod SpellsLaws
-pub mod SymbolLaws

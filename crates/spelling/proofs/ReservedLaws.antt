@@ -4,9 +4,10 @@ use Prim.Native.String.{String}
 use mathlib.Core.Path.{◌≡◌, refl, ap, ◌∙◌}
 use mathlib.Core.Bool.{Bool, true, false, cond}
 use mathlib.Core.List.{List, [], ◌∷◌}
-use mathlib.Core.Option.{some}
+use Rattle.std.specs.Prelude.{Some}
 use Rattle.edition.specs.declared.Edition.{Edition}
-use Rattle.refusal.specs.Lists.{every, is_there}
+use Rattle.std.specs.Prelude.{is_some}
+use Rattle.refusal.specs.Lists.{every}
 use Rattle.refusal.specs.SubjectWords.{ascii}
 use Rattle.refusal.proofs.ResultLaws.{never}
 use Rattle.arithmetic.specs.declared.Operator.{Operator}
@@ -22,12 +23,12 @@ name_words [] = []
 name_words (x ∷ xs) = let rest = name_words xs in cond (is_name (ascii x.0)) (x.0 ∷ rest) rest
 
 -- a name is spelt in a table exactly where it is one of these
-name_spelt : (s : List ℕ) → is_name s ≡ true → (xs : List (String × Operator)) → is_there (operator_spelt s xs) ≡ is_one_of_words s (name_words xs)
+name_spelt : (s : List ℕ) → is_name s ≡ true → (xs : List (String × Operator)) → is_some (operator_spelt s xs) ≡ is_one_of_words s (name_words xs)
 unfolding operator_spelt name_words is_one_of_words
 name_spelt s h [] = refl
 name_spelt s h (x ∷ xs) = go (is_name (ascii x.0)) refl (same (ascii x.0) s) refl (name_spelt s h xs)
   where
-    go : (n : Bool) → is_name (ascii x.0) ≡ n → (t : Bool) → same (ascii x.0) s ≡ t → is_there (operator_spelt s xs) ≡ is_one_of_words s (name_words xs) → is_there (cond t (some x.1) (operator_spelt s xs)) ≡ is_one_of_words s (cond n (x.0 ∷ name_words xs) (name_words xs))
+    go : (n : Bool) → is_name (ascii x.0) ≡ n → (t : Bool) → same (ascii x.0) s ≡ t → is_some (operator_spelt s xs) ≡ is_one_of_words s (name_words xs) → is_some (cond t (Some x.1) (operator_spelt s xs)) ≡ is_one_of_words s (cond n (x.0 ∷ name_words xs) (name_words xs))
     go true e true d ih = rw d
     go true e false d ih = rw d ih
     go false e true d ih = never (cc (e, h, ap is_name (same_true _ s d)))

@@ -4,7 +4,7 @@ use Prim.Native.String.{String}
 use mathlib.Core.Path.{◌≡◌, refl, sym, ap, ◌∙◌}
 use mathlib.Core.Bool.{Bool, true, false, not, cond, ◌&&◌}
 use mathlib.Core.List.{List, [], ◌∷◌}
-use mathlib.Core.Option.{some}
+use Rattle.std.specs.Prelude.{Some}
 use lib.Dec.{eqb, leb}
 use lib.ListN.{length}
 use borrow.Author.Tests.{eq-eqb, leb-true, not-true}
@@ -36,12 +36,12 @@ record Entry (test : String × Operator → Bool) (s : List ℕ) (op : Operator)
   is : entry.1 ≡ op
 
 -- what a table spells stands in the table
-spelt_by : (test : String × Operator → Bool) (s : List ℕ) (op : Operator) (xs : List (String × Operator)) → every test xs ≡ true → operator_spelt s xs ≡ some op → Entry test s op
+spelt_by : (test : String × Operator → Bool) (s : List ℕ) (op : Operator) (xs : List (String × Operator)) → every test xs ≡ true → operator_spelt s xs ≡ Some op → Entry test s op
 unfolding every operator_spelt
 spelt_by test s op [] h e = never (cc e)
 spelt_by test s op (x ∷ xs) h e = let p = and_true (test x) (every test xs) h in go p.0 (same (ascii x.0) s) refl (spelt_by test s op xs p.1) e
   where
-    go : test x ≡ true → (t : Bool) → same (ascii x.0) s ≡ t → (operator_spelt s xs ≡ some op → Entry test s op) → cond t (some x.1) (operator_spelt s xs) ≡ some op → Entry test s op
+    go : test x ≡ true → (t : Bool) → same (ascii x.0) s ≡ t → (operator_spelt s xs ≡ Some op → Entry test s op) → cond t (Some x.1) (operator_spelt s xs) ≡ Some op → Entry test s op
     go k true d later q = record { entry = x; passes = k; spells = same_true (ascii x.0) s d; is = cc q }
     go k false d later q = later q
 
@@ -55,7 +55,7 @@ unlike [] = true
 unlike (x ∷ xs) = every (other_number (operator_number x.1)) xs && unlike xs
 
 -- in such a table, whatever spells an operator is its spelling
-own : (s : List ℕ) (op : Operator) (xs : List (String × Operator)) → unlike xs ≡ true → operator_spelt s xs ≡ some op → s ≡ spelling_in xs op
+own : (s : List ℕ) (op : Operator) (xs : List (String × Operator)) → unlike xs ≡ true → operator_spelt s xs ≡ Some op → s ≡ spelling_in xs op
 unfolding operator_spelt spelling_in
 own s op [] u e = never (cc e)
 own s op (x ∷ xs) u e = let p = and_true (every (other_number n) xs) (unlike xs) u in go (same (ascii x.0) s) refl p.0 (own s op xs p.1) e
@@ -63,17 +63,17 @@ own s op (x ∷ xs) u e = let p = and_true (every (other_number n) xs) (unlike x
     n : ℕ
     n = operator_number x.1
 
-    go : (t : Bool) → same (ascii x.0) s ≡ t → every (other_number n) xs ≡ true → (operator_spelt s xs ≡ some op → s ≡ spelling_in xs op) → cond t (some x.1) (operator_spelt s xs) ≡ some op → s ≡ spelling_in (x ∷ xs) op
+    go : (t : Bool) → same (ascii x.0) s ≡ t → every (other_number n) xs ≡ true → (operator_spelt s xs ≡ Some op → s ≡ spelling_in xs op) → cond t (Some x.1) (operator_spelt s xs) ≡ Some op → s ≡ spelling_in (x ∷ xs) op
     go true d k later q = let z : x.1 ≡ op = cc q in rw (eq-eqb n (operator_number op) (ap operator_number z)) (sym (same_true (ascii x.0) s d))
     go false d k later q = let y = spelt_by (other_number n) s op xs k q in rw (not-true (eqb n (operator_number op)) (rw y.is at y.passes)) (later q)
 
 all_unlike : (e : Edition) → unlike (spellings e) ≡ true
-unfolding every spellings bitwise_spellings predicate_spellings arithmetic_spellings shift_and_cast_spellings operator_number bitwise_number comparison_number arithmetic_number division_number shift_number extension_number
+unfolding every spellings bitwise_spellings predicate_spellings arithmetic_spellings shift_and_cast_spellings operator_number
 all_unlike e = refl
 
 -- the spelling of an operator spells it
-again : (e : Edition) (op : Operator) → operator_named e (spelling_of e op) ≡ some op
-unfolding spelling_of spelling_in operator_spelt same spellings bitwise_spellings predicate_spellings arithmetic_spellings shift_and_cast_spellings operator_number bitwise_number comparison_number arithmetic_number division_number shift_number extension_number
+again : (e : Edition) (op : Operator) → operator_named e (spelling_of e op) ≡ Some op
+unfolding spelling_of spelling_in operator_spelt same spellings bitwise_spellings predicate_spellings arithmetic_spellings shift_and_cast_spellings operator_number
 again e (Combine And) = refl
 again e (Combine Or) = refl
 again e (Combine Xor) = refl

@@ -1,6 +1,6 @@
 -- The claims about spellings.
 use Rattle.std.specs.Prelude.{ℕ, ◌≡◌, true, ◌↔◌, List}
-use Rattle.std.proofs.Math.Option.{some}
+use Rattle.std.specs.Prelude.{Some}
 use Rattle.edition.specs.declared.Edition.{Edition}
 use Rattle.arithmetic.specs.declared.Operator.{Operator}
 use Rattle.text.specs.Spelling.{is_name}
@@ -12,4 +12,4 @@ ReservedExactly = (e : Edition) (s : List ℕ) → is_name s ≡ true → is_res
 
 -- reading a spelling and spelling an operator are inverse: a text spells an operator exactly when it is the operator's spelling
 abbrev pub SpellsExactly : Type 0
-SpellsExactly = (e : Edition) (op : Operator) (s : List ℕ) → (operator_named e s ≡ some op) ↔ (s ≡ spelling_of e op)
+SpellsExactly = (e : Edition) (op : Operator) (s : List ℕ) → (operator_named e s ≡ Some op) ↔ (s ≡ spelling_of e op)

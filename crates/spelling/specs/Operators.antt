@@ -1,7 +1,7 @@
 -- The operators' spellings, by edition.
 use Rattle.std.specs.Prelude.{ℕ, Bool, false, cond, ◌||◌, List, [], ◌∷◌, ◌++◌, eqb}
 use Prim.Native.String.{String}
-use Rattle.std.proofs.Math.Option.{Option, none, some}
+use Rattle.std.specs.Prelude.{Option, None, Some}
 use Rattle.edition.specs.declared.Edition.{Edition}
 use Rattle.arithmetic.specs.declared.Operator.{Operator}
 use Rattle.arithmetic.specs.declared.Operator.TheVariants.{Combine, Not, Implies, Compare, Ite, Compute, Divide, Move, Trun, Extend, Conc, Extr}
@@ -12,7 +12,7 @@ use Rattle.arithmetic.specs.declared.Division.TheVariants.{Udiv, Sdiv, Urem, Sre
 use Rattle.arithmetic.specs.declared.Shift.TheVariants.{Shl, Ashr, Lshr}
 use Rattle.arithmetic.specs.declared.Extension.TheVariants.{Sext, Zext}
 use Rattle.arithmetic.specs.Numbering.{operator_number}
-use Rattle.refusal.specs.Lists.{is_there}
+use Rattle.std.specs.Prelude.{is_some}
 use Rattle.refusal.specs.SubjectWords.{ascii}
 use Rattle.text.specs.Bytes.{same}
 
@@ -45,8 +45,8 @@ spellings e = bitwise_spellings ++ predicate_spellings ++ arithmetic_spellings +
 
 -- the operator of the first spelling that is s
 unfoldable pub operator_spelt : List ℕ → List (String × Operator) → Option Operator
-operator_spelt s [] = none
-operator_spelt s (x ∷ xs) = let rest = operator_spelt s xs in cond (same (ascii x.0) s) (some x.1) rest
+operator_spelt s [] = None
+operator_spelt s (x ∷ xs) = let rest = operator_spelt s xs in cond (same (ascii x.0) s) (Some x.1) rest
 
 -- the operator that s spells in an edition
 abbrev pub operator_named : Edition → List ℕ → Option Operator
@@ -63,7 +63,7 @@ spelling_of e op = spelling_in (spellings e) op
 
 -- "The 14 word operators .. are reserved": a name that spells an operator is
 abbrev pub is_reserved : Edition → List ℕ → Bool
-is_reserved e s = is_there (operator_named e s)
+is_reserved e s = is_some (operator_named e s)
 
 -- the reserved words: "ule uge ult ugt sle sge slt sgt ite trun sext zext conc extr"
 unfoldable pub reserved_words : Edition → List String

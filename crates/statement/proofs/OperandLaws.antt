@@ -2,7 +2,7 @@
 use mathlib.Core.Path.{◌≡◌, refl, sym, ap, ◌∙◌}
 use mathlib.Core.Bool.{true}
 use mathlib.Core.List.{List, [], ◌∷◌}
-use mathlib.Core.Option.{none, some}
+use Rattle.std.specs.Prelude.{None, Some, IfOk}
 use Prim.Native.Nat.{ℕ, zero, suc, ◌+◌, ◌-◌, ◌≤◌, ◌<◌}
 use native.Mathlib.Numerals.{add-one}
 use native.Mathlib.Omega.{arith}
@@ -11,8 +11,8 @@ use borrow.Author.Tests.{lt-ltb, le-ltb}
 use Rattle.edition.specs.Edition.{max_lines}
 use Rattle.refusal.specs.declared.Refusal.{Refusal}
 use Rattle.refusal.specs.declared.Subject.TheVariants.{Constraint}
-use Rattle.refusal.specs.Numbers.{token_count, over_limit, unknown_operator}
-use Rattle.refusal.specs.Result.{Result, accepted, refused, refusal, ◌>>=◌}
+use Rattle.refusal.specs.declared.Fault.TheVariants.{TokenCount, OverLimit, UnknownOperator}
+use Rattle.refusal.specs.Result.{Reply, Ok, Err, refusal, ◌>>=◌}
 use Rattle.arithmetic.specs.declared.Operator.{Operator}
 use Rattle.arithmetic.specs.Rules.{arity}
 use Rattle.arithmetic.proofs.RuleLaws.{arity_bounds}
@@ -31,25 +31,23 @@ use Rattle.spelling.specs.Operators.{operator_named}
 use Rattle.store.specs.Tables.{line_bodies, table_heads, table_bodies, operand_of, line_in, with_head, with_body, with_operand, LinesKept, HeadsFit}
 use Rattle.store.proofs.LineTableLaws.{line_operand}
 use Rattle.statement.specs.Internal.{finished, place_operands, left_to_read, operand_next, InLine, BlankUpTo, first_slot, LineFits}
-use Rattle.statement.specs.declared.LineRead.{LineRead}
-use Rattle.statement.specs.declared.LineRead.TheVariants.{Complete, NoLine}
 use Rattle.statement.specs.declared.Reached.{Reached}
 
-bind-bind : {A B C : Type 0} (r : Result A) (f : A → Result B) (g : B → Result C) → ((r >>= f) >>= g) ≡ (r >>= λ a. f a >>= g)
-bind-bind (accepted a) f g = refl
-bind-bind (refused r) f g = refl
+bind-bind : {A B C : Type 0} (r : Reply A) (f : A → Reply B) (g : B → Reply C) → ((r >>= f) >>= g) ≡ (r >>= λ a. f a >>= g)
+bind-bind (Ok a) f g = refl
+bind-bind (Err r) f g = refl
 
 -- ---- operands one by one, and all at once
 -- a line of operands, and operands with one in front of them; with the tokens behind
-abbrev into_line : (Operands → Line) → Operands × List Token → Result (Line × List Token)
-into_line h p = accepted (h p.0, p.1)
+abbrev into_line : (Operands → Line) → Operands × List Token → Reply (Line × List Token)
+into_line h p = Ok (h p.0, p.1)
 
-abbrev behind_one : Operand → Operands × List Token → Result (Operands × List Token)
-behind_one o p = accepted (in_front o p.0, p.1)
+abbrev behind_one : Operand → Operands × List Token → Reply (Operands × List Token)
+behind_one o p = Ok (in_front o p.0, p.1)
 
-fill_again : (r : Result (Operands × List Token)) (o : Operand) (h : Operands → Line) → (r >>= into_line (λ os. h (in_front o os))) ≡ ((r >>= behind_one o) >>= into_line h)
-fill_again (accepted p) o h = refl
-fill_again (refused r) o h = refl
+fill_again : (r : Reply (Operands × List Token)) (o : Operand) (h : Operands → Line) → (r >>= into_line (λ os. h (in_front o os))) ≡ ((r >>= behind_one o) >>= into_line h)
+fill_again (Ok p) o h = refl
+fill_again (Err r) o h = refl
 
 module _ (xs : List Variable) (l : TextLine) (output : Operand) (op : Operator) where
   abbrev line_of : Operands → Line
@@ -60,9 +58,9 @@ module _ (xs : List Variable) (l : TextLine) (output : Operand) (op : Operator) 
   placed_third a b zero ts h = refl
   placed_third a b (suc zero) ts h = go (next_operand xs l ts)
     where
-      go : (r : Result (Operand × List Token)) → (r >>= λ p. into_line (λ os. line_of (in_front a (in_front b os))) (in_front p.0 no_operands, p.1)) ≡ ((r >>= λ p. behind_one p.0 (no_operands, p.1)) >>= into_line (λ os. line_of (in_front a (in_front b os))))
-      go (accepted p) = refl
-      go (refused r) = refl
+      go : (r : Reply (Operand × List Token)) → (r >>= λ p. into_line (λ os. line_of (in_front a (in_front b os))) (in_front p.0 no_operands, p.1)) ≡ ((r >>= λ p. behind_one p.0 (no_operands, p.1)) >>= into_line (λ os. line_of (in_front a (in_front b os))))
+      go (Ok p) = refl
+      go (Err r) = refl
   placed_third a b (suc (suc n)) ts h = let z : ⊥ = omega arith in absurd z
 
   placed_second : (a : Operand) (n : ℕ) (ts : List Token) → n ≤ 2 → place_operands xs l 2 n (line_of (in_front a no_operands)) ts ≡ (read_operands xs l n ts >>= into_line (λ os. line_of (in_front a os)))
@@ -70,30 +68,30 @@ module _ (xs : List Variable) (l : TextLine) (output : Operand) (op : Operator) 
   placed_second a zero ts h = refl
   placed_second a (suc n) ts h = go (next_operand xs l ts)
     where
-      go : (r : Result (Operand × List Token)) → (r >>= λ p. place_operands xs l 3 n (line_of (in_front a (in_front p.0 no_operands))) p.1) ≡ ((r >>= λ p. read_operands xs l n p.1 >>= behind_one p.0) >>= into_line (λ os. line_of (in_front a os)))
-      go (accepted p) = placed_third a p.0 n p.1 (omega arith) ∙ fill_again (read_operands xs l n p.1) p.0 (λ os. line_of (in_front a os))
-      go (refused r) = refl
+      go : (r : Reply (Operand × List Token)) → (r >>= λ p. place_operands xs l 3 n (line_of (in_front a (in_front p.0 no_operands))) p.1) ≡ ((r >>= λ p. read_operands xs l n p.1 >>= behind_one p.0) >>= into_line (λ os. line_of (in_front a os)))
+      go (Ok p) = placed_third a p.0 n p.1 (omega arith) ∙ fill_again (read_operands xs l n p.1) p.0 (λ os. line_of (in_front a os))
+      go (Err r) = refl
 
   placed_first : (n : ℕ) (ts : List Token) → n ≤ 3 → place_operands xs l 1 n (line_of no_operands) ts ≡ (read_operands xs l n ts >>= into_line line_of)
   unfolding place_operands read_operands with_operand
   placed_first zero ts h = refl
   placed_first (suc n) ts h = go (next_operand xs l ts)
     where
-      go : (r : Result (Operand × List Token)) → (r >>= λ p. place_operands xs l 2 n (line_of (in_front p.0 no_operands)) p.1) ≡ ((r >>= λ p. read_operands xs l n p.1 >>= behind_one p.0) >>= into_line line_of)
-      go (accepted p) = placed_second p.0 n p.1 (omega arith) ∙ fill_again (read_operands xs l n p.1) p.0 line_of
-      go (refused r) = refl
+      go : (r : Reply (Operand × List Token)) → (r >>= λ p. place_operands xs l 2 n (line_of (in_front p.0 no_operands)) p.1) ≡ ((r >>= λ p. read_operands xs l n p.1 >>= behind_one p.0) >>= into_line line_of)
+      go (Ok p) = placed_second p.0 n p.1 (omega arith) ∙ fill_again (read_operands xs l n p.1) p.0 line_of
+      go (Err r) = refl
 
 -- ---- the next operand
-pub operand_missing : (xs : List Variable) (line : List ℕ) (start next : ℕ) (ts : List Token) → start ≤ length line → ts ≡ [] → refused (refusal Constraint token_count (length line)) ≡ next_operand xs (line_at line start next) ts
+pub operand_missing : (xs : List Variable) (line : List ℕ) (start next : ℕ) (ts : List Token) → start ≤ length line → ts ≡ [] → Err (refusal Constraint TokenCount (length line)) ≡ next_operand xs (line_at line start next) ts
 unfolding next_operand
 operand_missing xs line start next ts h e = rw (e, end_at line start next h)
 
 module _ (f : File) (l : TextLine) (slot last start : ℕ) (line : Line) (ts : List Token) (xs : List Variable) (v : f.variables ≡ xs) where
-  pub next_refused : (r : Refusal) → refused r ≡ next_operand xs l ts → refused r ≡ operand_next f l slot last start line ts
+  pub next_refused : (r : Refusal) → Err r ≡ next_operand xs l ts → Err r ≡ operand_next f l slot last start line ts
   unfolding operand_next
   next_refused r e = rw (v, ← e)
 
-  next_read : (o : Operand) (rest : List Token) → accepted (o, rest) ≡ next_operand xs l ts → left_to_read f l (slot + 1) last start (with_operand line slot o) rest ≡ operand_next f l slot last start line ts
+  next_read : (o : Operand) (rest : List Token) → Ok (o, rest) ≡ next_operand xs l ts → left_to_read f l (slot + 1) last start (with_operand line slot o) rest ≡ operand_next f l slot last start line ts
   unfolding operand_next
   next_read o rest e = rw (v, ← e)
 
@@ -103,7 +101,7 @@ output_only line slot o e = rw e
 
 -- an operand that is put into line n of the table
 module _ (heads bodies : List ℕ) (n slot head body : ℕ) (room : n < max_lines) (h : slot < line_bodies) (sized : length heads ≡ table_heads) (sized₂ : length bodies ≡ table_bodies) where
-  pub next_placed : (f : File) (l : TextLine) (last start : ℕ) (ts : List Token) (xs : List Variable) → f.variables ≡ xs → (rest : List Token) → accepted (operand_of head body, rest) ≡ next_operand xs l ts → left_to_read f l (slot + 1) last start (line_in (with_head heads n slot head) (with_body bodies n slot body) n) rest ≡ operand_next f l slot last start (line_in heads bodies n) ts
+  pub next_placed : (f : File) (l : TextLine) (last start : ℕ) (ts : List Token) (xs : List Variable) → f.variables ≡ xs → (rest : List Token) → Ok (operand_of head body, rest) ≡ next_operand xs l ts → left_to_read f l (slot + 1) last start (line_in (with_head heads n slot head) (with_body bodies n slot body) n) rest ≡ operand_next f l slot last start (line_in heads bodies n) ts
   next_placed f l last start ts xs v rest e = rw (line_operand heads bodies n slot head body room h sized sized₂) (next_read f l slot last start (line_in heads bodies n) ts xs v (operand_of head body) rest e)
 
   pub blank_placed : slot ≡ 0 → (line_in heads bodies n).operands ≡ no_operands → (line_in (with_head heads n slot head) (with_body bodies n slot body) n).operands ≡ no_operands
@@ -147,16 +145,16 @@ left_first f l start line ts (suc n) h = let b : suc n + 1 - 2 ≡ n = omega ari
 
 -- ---- an operation
 module _ (f : File) (output : Operand) (ts : List Token) where
-  pub operation_missing : (line : List ℕ) (start next : ℕ) → start ≤ length line → ts ≡ [] → refused (refusal Constraint token_count (length line)) ≡ read_operation f (line_at line start next) output ts
+  pub operation_missing : (line : List ℕ) (start next : ℕ) → start ≤ length line → ts ≡ [] → Err (refusal Constraint TokenCount (length line)) ≡ read_operation f (line_at line start next) output ts
   unfolding read_operation
   operation_missing line start next h e = rw (e, end_at line start next h)
 
   module _ (l : TextLine) (t : Token) (rest : List Token) (k : ts ≡ t ∷ rest) where
-    pub operation_unknown : none ≡ operator_named (edition_of f) t.bytes → refused (refusal Constraint unknown_operator t.start) ≡ read_operation f l output ts
+    pub operation_unknown : None ≡ operator_named (edition_of f) t.bytes → Err (refusal Constraint UnknownOperator t.start) ≡ read_operation f l output ts
     unfolding read_operation
     operation_unknown e = rw (k, ← e)
 
-    pub operation_read : (op : Operator) → some op ≡ operator_named (edition_of f) t.bytes → operand_next f l 1 (arity op) t.start (record { output = output; operator = op; operands = no_operands }) rest ≡ read_operation f l output ts
+    pub operation_read : (op : Operator) → Some op ≡ operator_named (edition_of f) t.bytes → operand_next f l 1 (arity op) t.start (record { output = output; operator = op; operands = no_operands }) rest ≡ read_operation f l output ts
     unfolding read_operation
     operation_read op e =
         let xs = f.variables in
@@ -169,7 +167,7 @@ module _ (f : File) (output : Operand) (ts : List Token) where
 
 -- ---- the `c` and `p` lines of a file with m lines so far
 module _ (form : Form) (f : File) (bytes : List ℕ) (at next m : ℕ) (q : length f.lines ≡ m) where
-  pub statement_full : max_lines ≤ m → refused (refusal Constraint over_limit at) ≡ read_statement form f (line_at bytes at next)
+  pub statement_full : max_lines ≤ m → Err (refusal Constraint OverLimit at) ≡ read_statement form f (line_at bytes at next)
   unfolding read_statement
   statement_full h = rw (q, le-ltb m max_lines h)
 
@@ -193,6 +191,6 @@ pub first_most : (form : Form) → first_slot form ≤ 1
 first_most WithOutput = omega arith
 first_most Predicate = omega arith
 
-pub fits_any : (xs : List Variable) (heads bodies : List ℕ) (m : ℕ) (r : LineRead) → m < max_lines → HeadsFit xs heads bodies m → LineFits xs heads bodies m r
-fits_any xs heads bodies m Complete h f = (h, f)
-fits_any xs heads bodies m (NoLine r) h f = tt
+pub fits_any : (xs : List Variable) (heads bodies : List ℕ) (m : ℕ) (r : Reply (Unit {0})) → m < max_lines → HeadsFit xs heads bodies m → IfOk r (λ done. LineFits xs heads bodies m)
+fits_any xs heads bodies m (Ok done) h f = (h, f)
+fits_any xs heads bodies m (Err r) h f = tt

@@ -1,8 +1,6 @@
 // The `c` and `p` lines: their operator, their operands and their type rule.
 #![tactic(auto)]
 
-use refusal::Refusal;
-
 pub mod operations;
 mod typing;
 
@@ -12,17 +10,4 @@ pub struct Reached {
     pub at: usize,
     pub last: usize,
     pub operator: usize,
-}
-
-#[derive(Clone, Copy)]
-pub enum PartRead {
-    UpTo(Reached),
-    NotRead(Refusal),
-}
-
-// Whether the line stands in the table.
-#[derive(Clone, Copy)]
-pub enum LineRead {
-    Complete,
-    NoLine(Refusal),
 }

@@ -6,3 +6,4 @@ pub mod LookupLaws
 pub mod HashLaws
 pub mod ChainLaws
 pub mod SearchLaws
+pub mod ExitLaws

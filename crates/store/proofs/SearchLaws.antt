@@ -3,7 +3,7 @@ use Prim.Native.Nat.{ℕ, ◌+◌, ◌%◌, ◌≤◌, ◌<◌}
 use mathlib.Core.Path.{◌≡◌, refl, ap, sym, subst, ◌∙◌}
 use mathlib.Core.Bool.{Bool, true, false}
 use mathlib.Core.List.{List, [], ◌∷◌, ◌++◌}
-use mathlib.Core.Option.{none, some}
+use Rattle.std.specs.Prelude.{None, Some}
 use native.Mathlib.Decide.{dec_lt, ℕ_discrete}
 use native.Mathlib.Omega.{arith}
 use lib.ListN.{length, get_or, set, take, drop, replicate, length-set, get_or-replicate}
@@ -110,7 +110,7 @@ module _ (table : List ℕ) (n start len width b : ℕ) (hn : n < length table) 
         tabulate_suc (variable_in file after) n
         ∙ rw (variable_here, tabulate_cong (variable_in file after) (variable_in file table) n variable_other)
 
-    module _ (held : Searchable file table n) (room : b < buckets) (whole : start + len ≤ length file) (hash : bucket_of (hash_of new.name) ≡ b) (fresh : variable_named new.name (variables_in file table n) ≡ none) where
+    module _ (held : Searchable file table n) (room : b < buckets) (whole : start + len ≤ length file) (hash : bucket_of (hash_of new.name) ≡ b) (fresh : variable_named new.name (variables_in file table n) ≡ None) where
       -- its name is no other variable's
       distinct_more : Distinct (variables_in file after (n + 1))
       unfolding variable_named
@@ -155,7 +155,7 @@ module _ (file table : List ℕ) (n start len width hash : ℕ) (held : Searchab
   pub variables_more : variables_in file (with_name table n start len width (bucket_of hash)) (n + 1) ≡ variables_in file table n ++ (record { name = take len (drop start file); width = width } ∷ [])
   variables_more = variables_with_name table n start len width (bucket_of hash) (omega arith) in_table s l w entry_fits file
 
-  pub searchable_more : start + len ≤ length file → hash ≡ hash_of (take len (drop start file)) → variable_named (take len (drop start file)) (variables_in file table n) ≡ none → Searchable file (with_name table n start len width (bucket_of hash)) (n + 1)
+  pub searchable_more : start + len ≤ length file → hash ≡ hash_of (take len (drop start file)) → variable_named (take len (drop start file)) (variables_in file table n) ≡ None → Searchable file (with_name table n start len width (bucket_of hash)) (n + 1)
   searchable_more h e fresh = searchable_with table n start len width (bucket_of hash) (omega arith) in_table s l w entry_fits file held (bucket_below hash) h (ap bucket_of (sym e)) fresh
 
 -- ---- a walk along a chain, in search of a name
@@ -168,10 +168,10 @@ unfolding variable_in variable_of
 has_part file table name v = refl
 
 module _ (file table : List ℕ) (n : ℕ) (held : Searchable file table n) (name : List ℕ) where
-  pub search_found : (v : ℕ) → v < n → has file table name v ≡ true → some v ≡ variable_named name (variables_in file table n)
+  pub search_found : (v : ℕ) → v < n → has file table name v ≡ true → Some v ≡ variable_named name (variables_in file table n)
   search_found v h e = sym (named_there name file table n held.distinct v h e)
 
   -- the chain ends: a variable of that name would have its bucket
-  pub search_ended : (b : ℕ) → b ≡ bucket_of (hash_of name) → Walk (bucket_in file table) n (has file table name) b 0 → none ≡ variable_named name (variables_in file table n)
+  pub search_ended : (b : ℕ) → b ≡ bucket_of (hash_of name) → Walk (bucket_in file table) n (has file table name) b 0 → None ≡ variable_named name (variables_in file table n)
   unfolding bucket_in
   search_ended b e w = sym (named_nowhere name file table n (λ v h. fails (has file table name v) (λ t. never (cc (t, w.passed v (omega arith) h (ap (λ s. bucket_of (hash_of s)) (same_true _ name t) ∙ sym e))))))

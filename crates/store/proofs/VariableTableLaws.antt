@@ -18,9 +18,9 @@ module _ (file table : List ℕ) (n i : ℕ) where
   unfolding variables_in variable_in
   held h = get_d_tabulate (variable_in file table) n i nothing h
 
-  none : n ≤ i → variable_at (variables_in file table n) i ≡ nothing
+  None : n ≤ i → variable_at (variables_in file table n) i ≡ nothing
   unfolding variables_in
-  none h =
+  None h =
       let l : length (tabulate (variable_in file table) n) ≤ i = omega (arith, length-tabulate (variable_in file table) n) in
       get_or-eq_default (tabulate (variable_in file table) n) nothing l
 
@@ -30,7 +30,7 @@ module _ (file table : List ℕ) (n i : ℕ) where
 
   pub width_none : n ≤ i → width_at (variables_in file table n) i ≡ 0
   unfolding width_at
-  width_none h = ap (λ x. x.width) (none h)
+  width_none h = ap (λ x. x.width) (None h)
 
   pub name_held : i < n → name_at (variables_in file table n) i ≡ take (name_length (get_or table i 0)) (drop (name_start (get_or table i 0)) file)
   unfolding name_at variable_of
@@ -38,7 +38,7 @@ module _ (file table : List ℕ) (n i : ℕ) where
 
   pub name_none : n ≤ i → name_at (variables_in file table n) i ≡ []
   unfolding name_at
-  name_none h = ap (λ x. x.name) (none h)
+  name_none h = ap (λ x. x.name) (None h)
 
 pub width_below : (file table : List ℕ) (n i : ℕ) → width_at (variables_in file table n) i < variable_mark
 unfolding word_width

@@ -1,6 +1,5 @@
 -- The tables that hold a file, and what they say.
 use Rattle.std.specs.Prelude.{ℕ, zero, suc, ◌+◌, ◌*◌, ◌/◌, ◌%◌, ◌<◌, ◌≡◌, cond, List, [], ◌∷◌, ◌++◌, eqb, ltb, length, get_or, take, drop, set}
-use Rattle.std.proofs.Math.Option.{Option, none, some}
 use Rattle.edition.specs.Edition.{max_variables, max_lines}
 use Rattle.arithmetic.specs.declared.Operator.{Operator}
 use Rattle.arithmetic.specs.Numbering.{operator_number, operator_numbered}
@@ -9,8 +8,6 @@ use Rattle.constraint.specs.declared.Operand.TheVariants.{Absent, Var, Const}
 use Rattle.constraint.specs.declared.Line.{Line}
 use Rattle.constraint.specs.File.{Variable}
 use Rattle.constraint.specs.TypeRules.{rule_word}
-use Rattle.store.specs.declared.Found.{Found}
-use Rattle.store.specs.declared.Found.TheVariants.{At, Nowhere}
 
 -- the first n elements of a table whose element i is f i
 unfoldable pub tabulate : {A : Type 0} → (ℕ → A) → ℕ → List A
@@ -73,11 +70,6 @@ variable_in file table i = variable_of file (get_or table i 0)
 -- the first n variables
 unfoldable pub variables_in : List ℕ → List ℕ → ℕ → List Variable
 variables_in file table = tabulate (variable_in file table)
-
--- where a search found a thing
-abbrev pub place : Found → Option ℕ
-place (At i) = some i
-place Nowhere = none
 
 -- LINES, in two tables: of each line the operator's number and the heads of its output and its operands, and their bodies
 

@@ -6,9 +6,8 @@ ghost use Rattle.edition.specs.Edition.{max_variables, max_name_bytes, max_width
 ghost use Rattle.constraint.specs.File.{variable_named};
 ghost use Rattle.store.specs.Hash.{hash_of, bucket_of};
 ghost use Rattle.store.specs.Names.{Searchable, with_name};
-ghost use Rattle.store.specs.Tables.{length_unit, variables_in, place};
+ghost use Rattle.store.specs.Tables.{length_unit, variables_in};
 
-use super::Found;
 use super::hashing::bucket;
 use super::variables::{
     first_entry, name_length, name_start, next_entry, with_first_entry, with_word_of,
@@ -42,9 +41,9 @@ pub fn find(
     text: &[u8],
     at: usize,
     hash: u32,
-) -> Found
+) -> Option<usize>
     requires { (at ≤ length text.now) × (n ≤ max_variables) × Searchable file.now variables.now n × (hash ≡ hash_of (drop at text.now)) }
-    ensures { place result ≡ variable_named (drop at text.now) (variables_in file.now variables.now n) }
+    ensures { result ≡ variable_named (drop at text.now) (variables_in file.now variables.now n) }
 {
     let b = bucket(hash);
     let mut entry = first_entry(variables[b]);
@@ -52,9 +51,9 @@ pub fn find(
         let v = entry - 1;
         let word = variables[v];
         if same_at(file, name_start(word), name_length(word), text, at) {
-            return Found::At(v);
+            return Some(v);
         }
         entry = next_entry(word);
     }
-    Found::Nowhere
+    None
 }

@@ -4,7 +4,7 @@ use mathlib.Core.Path.{◌≡◌, refl, ap}
 use mathlib.Core.List.{List}
 use lib.ListN.{length}
 use Rattle.edition.specs.Edition.{max_file_bytes}
-use Rattle.refusal.specs.Result.{Result, accepted, refused}
+use Rattle.refusal.specs.Result.{Reply, Ok, Err}
 use Rattle.refusal.proofs.ResultLaws.{never}
 use Rattle.text.specs.Endings.{contents}
 use Rattle.constraint.specs.File.{File, edition_of}
@@ -13,7 +13,6 @@ use Rattle.plain.proofs.SameContentsLaws.{contents_decide as file-contents}
 use Rattle.judge.specs.declared.Overall.{Overall}
 use Rattle.judge.specs.InUse.{Tables, room_of}
 use Rattle.answer.proofs.SameContentsLaws.{contents_decide as answer-contents}
-use Rattle.tables.specs.declared.CheckReply.TheVariants.{Checked}
 use Rattle.tables.specs.Check.{checking, checked}
 use Rattle.tables.specs.Claims.{ContentsDecideChecks}
 use Rattle.tables.proofs.CheckingLaws.{Steps, checking_steps, steps_checking}
@@ -28,9 +27,9 @@ module _ (constraint answer constraint' answer' : List ℕ) (t : Tables) (same :
         has_room = s.has_room;
       }
 
-  checked_same : (r : Result (File × List ℕ)) → checking constraint answer (room_of t) ≡ r → (overall : Overall) → (checked t r).reply ≡ Checked overall → checking constraint' answer' (room_of t) ≡ r
-  checked_same (accepted (f, row)) e overall q = steps_checking constraint' answer' (room_of t) f row (steps_same f row (checking_steps constraint answer (room_of t) f row e))
-  checked_same (refused r) e overall q = never (cc q)
+  checked_same : (r : Reply (File × List ℕ)) → checking constraint answer (room_of t) ≡ r → (overall : Overall) → (checked t r).reply ≡ Ok overall → checking constraint' answer' (room_of t) ≡ r
+  checked_same (Ok (f, row)) e overall q = steps_checking constraint' answer' (room_of t) f row (steps_same f row (checking_steps constraint answer (room_of t) f row e))
+  checked_same (Err r) e overall q = never (cc q)
 
 pub contents_decide : ContentsDecideChecks
 contents_decide constraint answer constraint' answer' t overall same alike short brief e = ap (checked t) (checked_same constraint answer constraint' answer' t same alike short brief (checking constraint answer (room_of t)) refl overall e)

@@ -3,7 +3,7 @@ use Prim.Native.Nat.{ℕ}
 use mathlib.Core.Path.{◌≡◌, refl, sym, ap, ◌∙◌}
 use mathlib.Core.Bool.{Bool, true, false}
 use mathlib.Core.List.{List, [], ◌∷◌}
-use Rattle.refusal.specs.Result.{Result, accepted, refused}
+use Rattle.refusal.specs.Result.{Reply, Ok, Err}
 use Rattle.refusal.proofs.ResultLaws.{never}
 use Rattle.arithmetic.specs.Claims.{zero_divisor}
 use Rattle.constraint.specs.declared.Line.{Line}
@@ -17,11 +17,10 @@ use Rattle.judge.specs.InUse.{Tables, Room, room_of}
 use Rattle.judge.specs.Claims.{ResultThere}
 use Rattle.judge.proofs.ResultLaws.{results_are_there}
 use Rattle.answer.proofs.AcceptsLaws.{accepts_exactly}
-use Rattle.tables.specs.declared.CheckReply.TheVariants.{Checked}
 use Rattle.tables.specs.Check.{checking, checked, check_outcome}
 use Rattle.tables.specs.Claims.{Satisfies, SatisfiedExactly}
 use Rattle.answer.proofs.FitLaws.{answer_fits, row_fits_answer}
-use Rattle.judge.proofs.OverallLaws.{Holds, satisfied_holds, holds_satisfied}
+use Rattle.judge.proofs.OverallLaws.{LineHolds, satisfied_holds, holds_satisfied}
 use Rattle.tables.proofs.CheckingLaws.{Steps, checking_steps, steps_checking}
 
 -- ---- a line that holds does not divide by zero
@@ -30,11 +29,11 @@ module _ (xs : List Variable) (row : List ℕ) where
   abbrev by_zero : Line → Bool
   by_zero l = zero_divisor l.operator (operand_word xs row l.operands.second)
 
-  not_by_zero : (l : Line) (t : Bool) → by_zero l ≡ t → ResultThere xs row l (judge xs row l) → Holds xs row l → t ≡ false
+  not_by_zero : (l : Line) (t : Bool) → by_zero l ≡ t → ResultThere xs row l (judge xs row l) → LineHolds xs row l → t ≡ false
   not_by_zero l true e r h = never (cc (sym (r.missing e).0 ∙ h))
   not_by_zero l false e r h = refl
 
-  none_by_zero : (ls : List Line) → Each (λ l. ResultThere xs row l (judge xs row l)) ls → Each (Holds xs row) ls → Each (λ l. by_zero l ≡ false) ls
+  none_by_zero : (ls : List Line) → Each (λ l. ResultThere xs row l (judge xs row l)) ls → Each (LineHolds xs row) ls → Each (λ l. by_zero l ≡ false) ls
   none_by_zero [] r h = tt
   none_by_zero (l ∷ ls) r h = (not_by_zero l (by_zero l) refl r.0 h.0, none_by_zero ls r.1 h.1)
 
@@ -73,12 +72,12 @@ module _ (constraint answer : List ℕ) (lent : Room) where
 
 -- ---- the check
 module _ (constraint answer : List ℕ) (t : Tables) where
-  satisfied_satisfies : (r : Result (File × List ℕ)) → checking constraint answer (room_of t) ≡ r → (checked t r).reply ≡ Checked Satisfied → Satisfies constraint answer (room_of t)
-  satisfied_satisfies (accepted (f, row)) e q = steps_satisfy constraint answer (room_of t) f row (checking_steps constraint answer (room_of t) f row e) (cc q)
-  satisfied_satisfies (refused r) e q = never (cc q)
+  satisfied_satisfies : (r : Reply (File × List ℕ)) → checking constraint answer (room_of t) ≡ r → (checked t r).reply ≡ Ok Satisfied → Satisfies constraint answer (room_of t)
+  satisfied_satisfies (Ok (f, row)) e q = steps_satisfy constraint answer (room_of t) f row (checking_steps constraint answer (room_of t) f row e) (cc q)
+  satisfied_satisfies (Err r) e q = never (cc q)
 
-  satisfies_satisfied : Satisfies constraint answer (room_of t) → (check_outcome constraint answer t).reply ≡ Checked Satisfied
-  satisfies_satisfied s = rw (steps_checking constraint answer (room_of t) s.file s.row (satisfies_steps constraint answer (room_of t) s)) (ap Checked (satisfies_overall constraint answer (room_of t) s))
+  satisfies_satisfied : Satisfies constraint answer (room_of t) → (check_outcome constraint answer t).reply ≡ Ok Satisfied
+  satisfies_satisfied s = rw (steps_checking constraint answer (room_of t) s.file s.row (satisfies_steps constraint answer (room_of t) s)) (ap Ok (satisfies_overall constraint answer (room_of t) s))
 
 pub satisfied_exactly : SatisfiedExactly
 satisfied_exactly constraint answer t = (satisfied_satisfies constraint answer t (checking constraint answer (room_of t)) refl, satisfies_satisfied constraint answer t)

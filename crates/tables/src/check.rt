@@ -4,17 +4,15 @@ ghost use Rattle.judge.specs.InUse.{tables_of};
 ghost use Rattle.tables.specs.Check.{check_outcome};
 ghost use Rattle.tables.specs.Internal.{reply_of, CountsLines};
 
-use super::{CheckReply, Judgement};
-use answer::AnswerRead;
 use answer::reading::read_answer;
 use answer::rows::store_row;
 use edition::Edition;
+use judge::Overall;
 use judge::in_use::tables_room;
 use judge::lines::judge_all;
 use judge::verdicts::overall;
 use reader::reading::read;
-use refusal::Gate;
-use store::Step;
+use refusal::Refusal;
 use store::lines::{TABLE_BODIES, TABLE_HEADS};
 
 // The check, and how many lines there are.
@@ -24,33 +22,21 @@ pub(crate) fn check_lines(
     values: &mut [u64],
     verdicts: &mut [u8],
     results: &mut [u64],
-) -> Judgement
+) -> Result<(Overall, usize), Refusal>
     ensures { (record { reply = reply_of result; tables = tables_of values.new verdicts.new results.new } ≡ check_outcome constraint.now answer.now (tables_of values.old verdicts.old results.old)) × CountsLines constraint.now result }
 {
     let mut variables = [0u64; Edition::VARIABLES];
     let mut heads = [0u8; TABLE_HEADS];
     let mut bodies = [0u64; TABLE_BODIES];
-    match read(constraint, &mut variables, &mut heads, &mut bodies) {
-        Step::Stop(r) => Judgement::Stopped(r),
-        Step::Next(p) => {
-            let n = p.variables;
-            let m = p.lines;
-            let mut row = [0u64; Edition::VARIABLES];
-            match read_answer(constraint, &variables, n, answer, &mut row) {
-                AnswerRead::Fault(r) => Judgement::Stopped(r),
-                AnswerRead::Complete => {
-                    match tables_room(n, m, values.len(), verdicts.len(), results.len()) {
-                        Gate::Bar(r) => Judgement::Stopped(r),
-                        Gate::Pass => {
-                            store_row(&row, n, values);
-                            judge_all(&heads, &bodies, m, &row[..n], verdicts, results);
-                            Judgement::Done(overall(&verdicts[..m]), m)
-                        }
-                    }
-                }
-            }
-        }
-    }
+    let p = read(constraint, &mut variables, &mut heads, &mut bodies)?;
+    let n = p.variables;
+    let m = p.lines;
+    let mut row = [0u64; Edition::VARIABLES];
+    read_answer(constraint, &variables, n, answer, &mut row)?;
+    tables_room(n, m, values.len(), verdicts.len(), results.len())?;
+    store_row(&row, n, values);
+    judge_all(&heads, &bodies, m, &row[..n], verdicts, results);
+    Ok((overall(&verdicts[..m]), m))
 }
 
 // Checks an answer against a constraint file, any bytes both, and fills the entries in use of the tables.
@@ -60,11 +46,9 @@ pub fn check(
     values: &mut [u64],
     verdicts: &mut [u8],
     results: &mut [u64],
-) -> CheckReply
+) -> Result<Overall, Refusal>
     ensures { record { reply = result; tables = tables_of values.new verdicts.new results.new } ≡ check_outcome constraint.now answer.now (tables_of values.old verdicts.old results.old) }
 {
-    match check_lines(constraint, answer, values, verdicts, results) {
-        Judgement::Done(o, _) => CheckReply::Checked(o),
-        Judgement::Stopped(r) => CheckReply::Refused(r),
-    }
+    let (overall, _) = check_lines(constraint, answer, values, verdicts, results)?;
+    Ok(overall)
 }

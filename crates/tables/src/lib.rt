@@ -2,24 +2,10 @@
 #![tactic(auto)]
 
 use judge::Overall;
-use refusal::Refusal;
 
 pub mod check;
 pub mod claims;
 pub mod reports;
-
-#[derive(Clone, Copy)]
-pub enum CheckReply {
-    Checked(Overall),
-    Refused(Refusal),
-}
-
-// The overall verdict, and how many lines there are.
-#[derive(Clone, Copy)]
-pub enum Judgement {
-    Done(Overall, usize),
-    Stopped(Refusal),
-}
 
 // How many lines there are, and how many of each verdict.
 #[derive(Clone, Copy)]
@@ -31,7 +17,7 @@ pub struct Tally {
 }
 
 #[derive(Clone, Copy)]
-pub enum Report {
-    Tallied(Overall, Tally),
-    Refused(Refusal),
+pub struct Report {
+    pub overall: Overall,
+    pub tally: Tally,
 }

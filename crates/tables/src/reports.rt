@@ -1,21 +1,24 @@
 // The report on an answer; its tables are its own.
 ghost use Rattle.std.specs.Prelude.{◌≡◌, eqb};
 ghost use Rattle.refusal.specs.Lists.{how_many};
+ghost use Rattle.judge.specs.Judge.{verdict_byte};
 ghost use Rattle.tables.specs.Report.{tally_of, report_outcome};
 
 use super::check::check_lines;
-use super::{Judgement, Report, Tally};
+use super::{Report, Tally};
 use edition::Edition;
-use judge::Judged;
+use judge::Verdict;
+use refusal::Refusal;
 
-// How many verdicts are v.
-fn count(verdicts: &[u8], v: u8) -> usize
-    ensures { result ≡ how_many (eqb v) verdicts.now }
+// How many lines have the verdict.
+fn count(verdicts: &[u8], verdict: Verdict) -> usize
+    ensures { result ≡ how_many (eqb (verdict_byte verdict)) verdicts.now }
 {
+    let byte = verdict.byte();
     let mut n = 0;
     let mut i = 0;
     while i < verdicts.len() {
-        if v == verdicts[i] {
+        if byte == verdicts[i] {
             n += 1;
         }
         i += 1;
@@ -28,21 +31,22 @@ fn tally(verdicts: &[u8]) -> Tally
 {
     Tally {
         lines: verdicts.len(),
-        held: count(verdicts, Judged::HOLDS),
-        violated: count(verdicts, Judged::VIOLATED),
-        disregarded: count(verdicts, Judged::DISREGARDED),
+        held: count(verdicts, Verdict::Holds),
+        violated: count(verdicts, Verdict::Violated),
+        disregarded: count(verdicts, Verdict::Disregarded),
     }
 }
 
 // Reports on an answer to a constraint file, any bytes both.
-pub fn report(constraint: &[u8], answer: &[u8]) -> Report
+pub fn report(constraint: &[u8], answer: &[u8]) -> Result<Report, Refusal>
     ensures { result ≡ report_outcome constraint.now answer.now }
 {
     let mut values = [0u64; Edition::VARIABLES];
     let mut verdicts = [0u8; Edition::LINES];
     let mut results = [0u64; Edition::LINES];
-    match check_lines(constraint, answer, &mut values, &mut verdicts, &mut results) {
-        Judgement::Done(o, m) => Report::Tallied(o, tally(&verdicts[..m])),
-        Judgement::Stopped(r) => Report::Refused(r),
-    }
+    let (overall, m) = check_lines(constraint, answer, &mut values, &mut verdicts, &mut results)?;
+    Ok(Report {
+        overall,
+        tally: tally(&verdicts[..m]),
+    })
 }

@@ -36,16 +36,16 @@ pub lines_front : (a b : List ℕ) (at : ℕ) → every is_allowed a ≡ true �
 unfolding line_of is_line_feed
 lines_front a b at h =
     let ends = ends_feed (10 ∷ b) refl in
-    let none = content_none (10 ∷ b) (omega (arith, ends)) in
+    let None = content_none (10 ∷ b) (omega (arith, ends)) in
     lines_cons (a ++ 10 ∷ b) at (omega (arith, length-append a (10 ∷ b)))
-    ∙ rw (ended_content a (10 ∷ b) h none, ended_length a (10 ∷ b) h none, ends, drop-append-add a (10 ∷ b) 1, add-one (length a))
+    ∙ rw (ended_content a (10 ∷ b) h None, ended_length a (10 ∷ b) h None, ends, drop-append-add a (10 ∷ b) 1, add-one (length a))
 
 -- that line, where the file ends it
 pub lines_last : (a : List ℕ) (at : ℕ) → every is_allowed a ≡ true → 0 < length a → lines_from true at a ≡ line_of at a ∷ []
 unfolding line_length
-lines_last a at h some =
+lines_last a at h Some =
     let n : length a ≤ line_length a = omega (arith, ap length (content_all a h)) in
-    lines_cons a at some ∙ rw (drop_of_length-le a n, lines_none)
+    lines_cons a at Some ∙ rw (drop_of_length-le a n, lines_none)
 
 -- no bytes, no token
 pub tokens_none : (at : ℕ) → tokens_from true at [] ≡ []

@@ -7,7 +7,7 @@ use native.Mathlib.Omega.{arith}
 use lib.ListN.{length, take}
 use borrow.Author.Tests.{not-true}
 use Rattle.refusal.specs.Lists.{every}
-use Rattle.refusal.specs.Result.{Result}
+use Rattle.refusal.specs.Result.{Reply}
 use Rattle.refusal.proofs.BoolLaws.{and_true}
 use Rattle.refusal.proofs.ListLaws.{flat_map_same}
 use Rattle.text.specs.Bytes.{front_of, is_line_feed, is_carriage_return}
@@ -98,7 +98,7 @@ contents_returns begins at on (b ∷ s) h = go (is_line_feed b) refl (content_re
     go false e c ih = rw (contents_cons begins at b s, returns_other b s e, contents_cons begins on b (with_returns s), ← c, returns_other b s e, e, ih false (on + 1))
 
 pub returns_keep_contents : ReturnsKeepContents
-returns_keep_contents bytes none = sym (contents_returns true 0 0 bytes none)
+returns_keep_contents bytes None = sym (contents_returns true 0 0 bytes None)
 
 returns_longer : (s : List ℕ) → length s ≤ length (with_returns s)
 unfolding with_returns
@@ -113,7 +113,7 @@ returns_longer (b ∷ s) = go (is_line_feed b) (returns_longer s)
 pub by_contents : {A : Type 0} {f : TextLine → List A} → ((l m : TextLine) → l.bytes ≡ m.bytes → f l ≡ f m) → (a b : List ℕ) → contents a ≡ contents b → flat_map f (text_lines a) ≡ flat_map f (text_lines b)
 by_contents moved a b same = flat_map_same (λ l. l.bytes) moved (text_lines a) (text_lines b) same
 
-pub returns_change_nothing : {A : Type 0} (read : List ℕ → Result A) → ContentsDecide read → ReturnsChangeNothing read
-returns_change_nothing read decides bytes x none short =
-    let same = returns_keep_contents bytes none in
+pub returns_change_nothing : {A : Type 0} (read : List ℕ → Reply A) → ContentsDecide read → ReturnsChangeNothing read
+returns_change_nothing read decides bytes x None short =
+    let same = returns_keep_contents bytes None in
     (decides bytes (with_returns bytes) x same short, decides (with_returns bytes) bytes x (sym same) (omega (arith, returns_longer bytes)))

@@ -12,21 +12,29 @@ use Rattle.refusal.proofs.ListLaws.{every_broken}
 use Rattle.refusal.proofs.ResultLaws.{never}
 use Rattle.text.specs.Bytes.{front_of, is_line_feed, is_carriage_return, is_allowed}
 use Rattle.text.specs.Lines.{TextLine, line_end, terminator_length, content_of, line_of}
-use Rattle.text.specs.declared.LineFound.{LineFound}
-use Rattle.text.specs.declared.LineFound.TheVariants.{Ends, Faulty}
+use Rattle.std.specs.Prelude.{Result, Ok, Err}
+use Rattle.text.specs.declared.LineEnd.{LineEnd}
 use Rattle.text.specs.Scan.{past, found_line, line_at}
 use Rattle.text.proofs.RunLaws.{drop-take, run_take, run_stop, past_fails, every_of_run, scan_place}
 use Rattle.text.proofs.AppendLaws.{run_front}
 use Rattle.text.proofs.ContentLaws.{content_on, content_none, content_take, content_short, content_through, length_some, length_within, ended_content, ended_length}
 use Rattle.text.proofs.LineLaws.{line_from}
 
+-- a line that ends
+abbrev pub ends_at : ℕ → ℕ → Result LineEnd ℕ
+ends_at stop next = Ok (record { stop = stop; next = next })
+
+abbrev end_in : Result LineEnd ℕ → LineEnd
+end_in (Ok e) = e
+end_in (Err bad) = record { stop = bad; next = bad }
+
 -- ---- the line that begins with the allowed bytes r, which stand at `at`
 module _ (r : List ℕ) (h : every is_allowed r ≡ true) (at : ℕ) where
-  found_ends : (t : List ℕ) → content_of t ≡ [] → found_line (line_of at (r ++ t)) ≡ Ends (at + length r) (at + length r + terminator_length t)
+  found_ends : (t : List ℕ) → content_of t ≡ [] → found_line (line_of at (r ++ t)) ≡ ends_at (at + length r) (at + length r + terminator_length t)
   unfolding found_line line_of
   found_ends t e = rw (ended_content r t h e, ended_length r t h e, h, add_assoc at (length r) (terminator_length t))
 
-  found_faulty : (b : ℕ) (t : List ℕ) → is_allowed b ≡ false → terminator_length (b ∷ t) ≡ 0 → found_line (line_of at (r ++ b ∷ t)) ≡ Faulty (at + length r)
+  found_faulty : (b : ℕ) (t : List ℕ) → is_allowed b ≡ false → terminator_length (b ∷ t) ≡ 0 → found_line (line_of at (r ++ b ∷ t)) ≡ Err (at + length r)
   unfolding found_line line_of
   found_faulty b t a e =
       let u = content_of t in
@@ -47,20 +55,20 @@ module _ (f : List ℕ) (at m : ℕ) (h : at ≤ length f) (hm : m ≡ past is_a
       let r = front_of is_allowed (drop at f) in
       sym (take-append-drop (length r) (drop at f)) ∙ rw (drop-drop, stops) (ap (λ (l : List ℕ). l ++ drop m f) (sym (run_take is_allowed (drop at f))))
 
-  by : (t : List ℕ) (x : LineFound) → drop m f ≡ t → found_line (line_of at (front_of is_allowed (drop at f) ++ t)) ≡ x → x ≡ found_line (line_from f at)
+  by : (t : List ℕ) (x : Result LineEnd ℕ) → drop m f ≡ t → found_line (line_of at (front_of is_allowed (drop at f) ++ t)) ≡ x → x ≡ found_line (line_from f at)
   by t x e k = sym k ∙ ap (λ (s : List ℕ). found_line (line_of at s)) (sym (split ∙ ap (λ (l : List ℕ). front_of is_allowed (drop at f) ++ l) e))
 
   -- the file ends there
-  pub stops_end : length f ≤ m → Ends m m ≡ found_line (line_from f at)
+  pub stops_end : length f ≤ m → ends_at m m ≡ found_line (line_from f at)
   unfolding content_of terminator_length is_line_feed is_carriage_return
   stops_end l = by [] _ (drop_of_length-le f l) (rw (stops, add-zero) at (found_ends _ front at [] refl))
 
   -- the line does
-  pub stops_ended : (n : ℕ) → 0 < n → n ≡ terminator_length (drop m f) → Ends m (m + n) ≡ found_line (line_from f at)
+  pub stops_ended : (n : ℕ) → 0 < n → n ≡ terminator_length (drop m f) → ends_at m (m + n) ≡ found_line (line_from f at)
   stops_ended n p e = by _ _ refl (rw (stops, ← e) at (found_ends _ front at (drop m f) (content_none (drop m f) (omega arith))))
 
   -- it goes on there, with a byte that is not allowed
-  pub stops_faulty : m < length f → 0 ≡ terminator_length (drop m f) → Faulty m ≡ found_line (line_from f at)
+  pub stops_faulty : m < length f → 0 ≡ terminator_length (drop m f) → Err m ≡ found_line (line_from f at)
   stops_faulty l e =
       let byte = drop-cons f m 0 l in
       let no-pass : is_allowed (get_or f m 0) ≡ false = rw (← hm) at (past_fails is_allowed f at (rw hm at l)) in
@@ -96,22 +104,22 @@ module _ (f : List ℕ) (at : ℕ) (h : at < length f) where
         allowed = rw (← content) e;
       }
 
-  pub line_ends : (stop next : ℕ) → Ends stop next ≡ found_line (line_from f at) → Ended f at stop next
+  pub line_ends : (stop next : ℕ) → ends_at stop next ≡ found_line (line_from f at) → Ended f at stop next
   unfolding found_line
   line_ends stop next = go (every is_allowed (line_from f at).bytes) refl
     where
-      go : (t : Bool) → every is_allowed (line_from f at).bytes ≡ t → Ends stop next ≡ cond t (Ends (line_end (line_from f at)) (line_from f at).next) (Faulty ((line_from f at).start + length (front_of is_allowed (line_from f at).bytes))) → Ended f at stop next
+      go : (t : Bool) → every is_allowed (line_from f at).bytes ≡ t → ends_at stop next ≡ cond t (ends_at (line_end (line_from f at)) (line_from f at).next) (Err ((line_from f at).start + length (front_of is_allowed (line_from f at).bytes))) → Ended f at stop next
       go true e k =
-          let a : stop ≡ line_end (line_from f at) = cc k in
-          let b : next ≡ (line_from f at).next = cc k in
+          let a : stop ≡ line_end (line_from f at) = ap (λ e. (end_in e).stop) k in
+          let b : next ≡ (line_from f at).next = ap (λ e. (end_in e).next) k in
           rw (a, b) (ended e)
       go false e k = never (cc k)
 
 -- a byte that is not allowed stands at `bad`
-pub line_faulty : (l : TextLine) (bad : ℕ) → Faulty bad ≡ found_line l → (every is_allowed l.bytes ≡ false) × (l.start + length (front_of is_allowed l.bytes) ≡ bad)
+pub line_faulty : (l : TextLine) (bad : ℕ) → Err bad ≡ found_line l → (every is_allowed l.bytes ≡ false) × (l.start + length (front_of is_allowed l.bytes) ≡ bad)
 unfolding found_line
 line_faulty l bad = go (every is_allowed l.bytes) refl
   where
-    go : (t : Bool) → every is_allowed l.bytes ≡ t → Faulty bad ≡ cond t (Ends (line_end l) l.next) (Faulty (l.start + length (front_of is_allowed l.bytes))) → (every is_allowed l.bytes ≡ false) × (l.start + length (front_of is_allowed l.bytes) ≡ bad)
+    go : (t : Bool) → every is_allowed l.bytes ≡ t → Err bad ≡ cond t (ends_at (line_end l) l.next) (Err (l.start + length (front_of is_allowed l.bytes))) → (every is_allowed l.bytes ≡ false) × (l.start + length (front_of is_allowed l.bytes) ≡ bad)
     go true e k = never (cc k)
     go false e k = (e, cc k)

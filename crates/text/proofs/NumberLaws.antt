@@ -11,8 +11,9 @@ use Rattle.refusal.specs.Lists.{every}
 use Rattle.text.specs.Bytes.{front_of, is_digit}
 use Rattle.text.specs.Spelling.{is_numeral, decimal_from, decimal}
 use Rattle.text.specs.declared.Class.TheVariants.{Digit}
-use Rattle.text.specs.declared.Number.{Number}
-use Rattle.text.specs.declared.Number.TheVariants.{Value, TooBig, Misspelt}
+use Rattle.std.specs.Prelude.{Ok, Err}
+use Rattle.text.specs.declared.NumberError.TheVariants.{TooBig, NotANumber}
+use Rattle.text.specs.Scan.{Number}
 use Rattle.text.specs.Scan.{is_of, past, magnitude, number_read}
 use Rattle.refusal.proofs.BoolLaws.{and_false, and_one, and_true}
 use Rattle.text.proofs.RunLaws.{run_more, run_stop, run_end, run_all, scan_bounds, scan_all, scan_not}
@@ -46,21 +47,21 @@ digits_grow (b ∷ s) n m k = digits_grow s (n * 10 + (b - 48)) m (omega arith)
 
 -- what digits make: n, or more than a word holds once n is
 module _ (s : List ℕ) (n : ℕ) where
-  pub digits_good : n < 2 ^ 64 → n ≡ decimal s → Value n ≡ magnitude s
+  pub digits_good : n < 2 ^ 64 → n ≡ decimal s → Ok n ≡ magnitude s
   digits_good h e = rw (sym e, lt-ltb n (2 ^ 64) h)
 
-  pub digits_big : 2 ^ 64 ≤ n → (t : List ℕ) → decimal_from n t ≡ decimal s → TooBig ≡ magnitude s
+  pub digits_big : 2 ^ 64 ≤ n → (t : List ℕ) → decimal_from n t ≡ decimal s → Err TooBig ≡ magnitude s
   digits_big h t e =
       let big : 2 ^ 64 ≤ decimal s = omega (arith, e, digits_grow t n (2 ^ 64) h) in
       rw (le-ltb (decimal s) (2 ^ 64) big)
 
 -- the number from `at` on, by where its digits stop
 module _ (most : ℕ) (f : List ℕ) (at stop : ℕ) (h : at ≤ length f) (e : stop ≡ past (is_of Digit) f at) where
-  pub number_other : stop < length f → Misspelt ≡ number_read most (drop at f)
+  pub number_other : stop < length f → Err NotANumber ≡ number_read most (drop at f)
   unfolding is_of number_read is_numeral
   number_other l = rw (scan_not (is_of Digit) f at stop h e l, and_false)
 
-  pub number_whole : length f ≤ stop → (n : Number) → n ≡ magnitude (front_of (is_of Digit) (drop at f)) → cond (leb 1 (stop - at) && leb (stop - at) most) n Misspelt ≡ number_read most (drop at f)
+  pub number_whole : length f ≤ stop → (n : Number) → n ≡ magnitude (front_of (is_of Digit) (drop at f)) → cond (leb 1 (stop - at) && leb (stop - at) most) n (Err NotANumber) ≡ number_read most (drop at f)
   unfolding is_of number_read is_numeral
   number_whole l n k =
       let b = scan_bounds (is_of Digit) f at stop h e in

@@ -11,11 +11,10 @@ use Rattle.edition.specs.Edition.{max_file_bytes}
 use Rattle.refusal.specs.declared.Refusal.{Refusal}
 use Rattle.refusal.specs.declared.Subject.{Subject}
 use Rattle.refusal.specs.Lists.{every}
-use Rattle.refusal.specs.Numbers.{file_too_long, byte_not_allowed}
-use Rattle.refusal.specs.Result.{Result, accepted, refused, refusal, ◌>>=◌, ◌>>◌}
+use Rattle.refusal.specs.declared.Fault.TheVariants.{FileTooLong, ByteNotAllowed}
+use Rattle.refusal.specs.Result.{Reply, Ok, Err, refusal, ◌>>=◌, ◌>>◌}
 use Rattle.refusal.proofs.ResultLaws.{Yields, yields_accepted, yields_refused, yields_cond, yields_bind, yields_ensure, bind_accepted, ensure_accepted}
 use Rattle.text.specs.declared.Class.TheVariants.{Space}
-use Rattle.text.specs.declared.LineFound.TheVariants.{Faulty}
 use Rattle.text.specs.Bytes.{is_space, is_allowed}
 use Rattle.text.specs.Lines.{TextLine, lines_from, text_lines, Token}
 use Rattle.text.specs.Reading.{next_token, no_more_tokens, read_any_line, read_lines, read_text}
@@ -25,12 +24,12 @@ use Rattle.text.proofs.FoundLineLaws.{Ended, line_faulty}
 
 module _ {B : Type 0} {Q : B → Type 0} (file : Subject) where
   -- the first of the tokens, then the next step
-  pub yields_next : (l : TextLine) (ts : List Token) {next : Token × List Token → Result B} → ((p : Token × List Token) → ts ≡ p.0 ∷ p.1 → Yields Q (next p)) → Yields Q (next_token file l ts >>= next)
+  pub yields_next : (l : TextLine) (ts : List Token) {next : Token × List Token → Reply B} → ((p : Token × List Token) → ts ≡ p.0 ∷ p.1 → Yields Q (next p)) → Yields Q (next_token file l ts >>= next)
   yields_next l [] n = yields_refused
   yields_next l (t ∷ ts) n = n (t, ts) refl
 
   -- no token, then the next step
-  pub yields_no_more : (ts : List Token) {next : Result B} → (ts ≡ [] → Yields Q next) → Yields Q (no_more_tokens file ts >> next)
+  pub yields_no_more : (ts : List Token) {next : Reply B} → (ts ≡ [] → Yields Q next) → Yields Q (no_more_tokens file ts >> next)
   yields_no_more [] n = n refl
   yields_no_more (t ∷ ts) n = yields_refused
 
@@ -39,12 +38,12 @@ abbrev pub IsAllowed : TextLine → Type 0
 IsAllowed l = every is_allowed l.bytes ≡ true
 
 -- a line in front of lines is accepted only if its bytes are allowed
-pub line_allowed : {State : Type 0} (file : Subject) (read_line : State → TextLine → Result State) (l : TextLine) (ls : List TextLine) (s u : State) → read_lines file read_line s (l ∷ ls) ≡ accepted u → IsAllowed l
+pub line_allowed : {State : Type 0} (file : Subject) (read_line : State → TextLine → Reply State) (l : TextLine) (ls : List TextLine) (s u : State) → read_lines file read_line s (l ∷ ls) ≡ Ok u → IsAllowed l
 unfolding read_lines read_any_line
 line_allowed file read_line l ls s u e = let p = bind_accepted (read_any_line file read_line s l) (λ t. read_lines file read_line t ls) u e in (ensure_accepted (every is_allowed l.bytes) _ _ p.0 p.1).0
 
 -- what each line keeps holds of the whole
-module _ {State : Type 0} {P : State → Type 0} (file : Subject) (read_line : State → TextLine → Result State) (keeps : (s : State) (l : TextLine) → P s → Yields P (read_line s l)) where
+module _ {State : Type 0} {P : State → Type 0} (file : Subject) (read_line : State → TextLine → Reply State) (keeps : (s : State) (l : TextLine) → P s → Yields P (read_line s l)) where
   keeps_any_line : (s : State) (l : TextLine) → P s → Yields P (read_any_line file read_line s l)
   unfolding read_any_line
   keeps_any_line s l h = yields_ensure (every is_allowed l.bytes) _ λ _. yields_cond (every is_space l.bytes) (yields_accepted h) (keeps s l h)
@@ -58,10 +57,10 @@ module _ {State : Type 0} {P : State → Type 0} (file : Subject) (read_line : S
   unfolding read_text
   keeps_text s bytes h = yields_ensure (leb (length bytes) max_file_bytes) _ λ _. keeps_lines s (text_lines bytes) h
 
-module _ {State : Type 0} (file : Subject) (read_line : State → TextLine → Result State) where
+module _ {State : Type 0} (file : Subject) (read_line : State → TextLine → Reply State) where
   -- ---- any line whose bytes are allowed
   module _ (s : State) (text : List ℕ) (at next : ℕ) (allowed : every is_allowed (drop at text) ≡ true) where
-    pub fine_blank : every (is_of Space) (drop at text) ≡ true → accepted s ≡ read_any_line file read_line s (line_at text at next)
+    pub fine_blank : every (is_of Space) (drop at text) ≡ true → Ok s ≡ read_any_line file read_line s (line_at text at next)
     unfolding read_any_line is_of
     fine_blank b = rw (allowed, b)
 
@@ -79,36 +78,36 @@ module _ {State : Type 0} (file : Subject) (read_line : State → TextLine → R
     reading_starts = record { within = omega arith; rest = refl }
 
     module _ {s : State} {i : ℕ} (inv : Reading s i) where
-      pub reading_ends : length bytes ≤ i → accepted s ≡ read_lines file read_line start (text_lines bytes)
+      pub reading_ends : length bytes ≤ i → Ok s ≡ read_lines file read_line start (text_lines bytes)
       unfolding read_lines
       reading_ends h = rw (lines_end bytes i h) at inv.rest
 
       -- the line at i
       module _ (h : i < length bytes) where
-        line_stops : (r : Refusal) → refused r ≡ read_any_line file read_line s (line_from bytes i) → refused r ≡ read_lines file read_line start (text_lines bytes)
+        line_stops : (r : Refusal) → Err r ≡ read_any_line file read_line s (line_from bytes i) → Err r ≡ read_lines file read_line start (text_lines bytes)
         unfolding read_lines
         line_stops r e = rw (← e) at (rw (lines_turn bytes i h) at inv.rest)
 
-        line_goes : (t : State) → accepted t ≡ read_any_line file read_line s (line_from bytes i) → read_lines file read_line t (lines_from true (line_from bytes i).next (drop (line_from bytes i).next bytes)) ≡ read_lines file read_line start (text_lines bytes)
+        line_goes : (t : State) → Ok t ≡ read_any_line file read_line s (line_from bytes i) → read_lines file read_line t (lines_from true (line_from bytes i).next (drop (line_from bytes i).next bytes)) ≡ read_lines file read_line start (text_lines bytes)
         unfolding read_lines
         line_goes t e = rw (← e) at (rw (lines_turn bytes i h) at inv.rest)
 
         -- its content ends at `stop`, and the next line starts at `next`
         module _ (stop next : ℕ) (end : Ended bytes i stop next) where
-          pub reading_stops : (r : Refusal) → refused r ≡ read_any_line file read_line s (line_at (take stop bytes) i next) → refused r ≡ read_lines file read_line start (text_lines bytes)
+          pub reading_stops : (r : Refusal) → Err r ≡ read_any_line file read_line s (line_at (take stop bytes) i next) → Err r ≡ read_lines file read_line start (text_lines bytes)
           reading_stops r e = line_stops r (rw end.line e)
 
-          pub reading_goes : (t : State) → accepted t ≡ read_any_line file read_line s (line_at (take stop bytes) i next) → Reading t next
+          pub reading_goes : (t : State) → Ok t ≡ read_any_line file read_line s (line_at (take stop bytes) i next) → Reading t next
           reading_goes t e = record { within = end.inside; rest = rw end.line at (line_goes t (rw end.line e)) }
 
         -- a byte of it is not allowed
-        pub reading_faults : (bad : ℕ) → Faulty bad ≡ found_line (line_from bytes i) → refused (refusal file byte_not_allowed bad) ≡ read_lines file read_line start (text_lines bytes)
+        pub reading_faults : (bad : ℕ) → Err bad ≡ found_line (line_from bytes i) → Err (refusal file ByteNotAllowed bad) ≡ read_lines file read_line start (text_lines bytes)
         unfolding read_any_line
         reading_faults bad e = let q = line_faulty (line_from bytes i) bad e in line_stops _ (rw (q.0, q.1))
 
   -- ---- the whole text
   module _ (s : State) (bytes : List ℕ) where
-    pub text_long : max_file_bytes < length bytes → refused (refusal file file_too_long max_file_bytes) ≡ read_text file read_line s bytes
+    pub text_long : max_file_bytes < length bytes → Err (refusal file FileTooLong max_file_bytes) ≡ read_text file read_line s bytes
     unfolding read_text
     text_long h = rw (lt-leb (length bytes) max_file_bytes h)
 

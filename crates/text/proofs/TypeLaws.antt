@@ -16,8 +16,9 @@ use Rattle.refusal.proofs.ResultLaws.{never}
 use Rattle.text.specs.Bytes.{front_of, is_space, is_digit}
 use Rattle.text.specs.Spelling.{is_numeral, decimal_from, leading_zero, max_width_digits, is_type}
 use Rattle.text.specs.declared.Class.TheVariants.{Solid}
-use Rattle.text.specs.declared.TypeRead.{TypeRead}
-use Rattle.text.specs.declared.TypeRead.TheVariants.{Width, NoWidth, NoType}
+use Rattle.std.specs.Prelude.{Ok, Err}
+use Rattle.text.specs.declared.TypeError.TheVariants.{NoWidth, NoType}
+use Rattle.text.specs.Scan.{TypeRead}
 use Rattle.text.specs.Scan.{is_of, past, ends_token, type_of, type_behind_colon, StopsAt}
 use Rattle.text.proofs.RunLaws.{run_take, run_end}
 use Rattle.text.proofs.SeenLaws.{digit_bounds}
@@ -38,16 +39,16 @@ token = front_of (is_of Solid)
 
 -- a width that is spelt right
 abbrev width_of : ℕ → TypeRead
-width_of k = cond (is_width k) (Width k) NoWidth
+width_of k = cond (is_width k) (Ok k) (Err NoWidth)
 
 -- what holds of no bytes and of a byte in front of a token holds of the token there, whether that byte is white space or not
 token_split : (P : List ℕ → Type 0) (b : ℕ) (s : List ℕ) → P [] → P (b ∷ token s) → P (token (b ∷ s))
 unfolding front_of
-token_split P b s none some = go (is_of Solid b)
+token_split P b s None Some = go (is_of Solid b)
   where
     go : (t : Bool) → P (cond t (b ∷ token s) [])
-    go true = some
-    go false = none
+    go true = Some
+    go false = None
 
 -- a token by its first byte
 token_more : (b : ℕ) (s : List ℕ) → is_of Solid b ≡ true → token (b ∷ s) ≡ b ∷ token s
@@ -75,37 +76,37 @@ unfolding is_of is_space
 solid_letter = refl
 
 -- no type: the part behind the colon is none, or the part behind the letter is no numeral
-colon_no : (b : ℕ) (t : List ℕ) → type_of t ≡ NoType → type_behind_colon (b ∷ t) ≡ NoType
+colon_no : (b : ℕ) (t : List ℕ) → type_of t ≡ Err NoType → type_behind_colon (b ∷ t) ≡ Err NoType
 unfolding type_behind_colon
 colon_no b t e = rw e (same (eqb b 58))
   where
-    same : (u : Bool) → cond u NoType NoType ≡ NoType
+    same : (u : Bool) → cond {A = TypeRead} u (Err NoType) (Err NoType) ≡ Err NoType
     same true = refl
     same false = refl
 
-letter_no : (b : ℕ) (t : List ℕ) → is_numeral 2 t ≡ false → type_of (b ∷ t) ≡ NoType
+letter_no : (b : ℕ) (t : List ℕ) → is_numeral 2 t ≡ false → type_of (b ∷ t) ≡ Err NoType
 unfolding type_of is_type
 letter_no b t e = rw (e, and_false)
 
 -- the bytes are too few
-behind_short : (t : List ℕ) → length t < 2 → type_behind_colon t ≡ NoType
+behind_short : (t : List ℕ) → length t < 2 → type_behind_colon t ≡ Err NoType
 unfolding type_behind_colon type_of is_type
 behind_short [] h = refl
 behind_short (b ∷ []) h = colon_no b [] refl
 behind_short (b ∷ c ∷ t) h = absurd (omega arith)
 
-letter_alone : (b : ℕ) → type_of (b ∷ []) ≡ NoType
+letter_alone : (b : ℕ) → type_of (b ∷ []) ≡ Err NoType
 unfolding is_numeral
 letter_alone b = letter_no b [] refl
 
 -- a byte is not the one that stands there in a type
-colon_other : (b : ℕ) (s : List ℕ) → (b ≡ 58 → ⊥) → type_behind_colon (token (b ∷ s)) ≡ NoType
+colon_other : (b : ℕ) (s : List ℕ) → (b ≡ 58 → ⊥) → type_behind_colon (token (b ∷ s)) ≡ Err NoType
 unfolding type_behind_colon
-colon_other b s k = token_split (λ t. type_behind_colon t ≡ NoType) b s refl (rw (ne_eqb b 58 k))
+colon_other b s k = token_split (λ t. type_behind_colon t ≡ Err NoType) b s refl (rw (ne_eqb b 58 k))
 
-letter_other : (b : ℕ) (s : List ℕ) → (b ≡ 105 → ⊥) → type_of (token (b ∷ s)) ≡ NoType
+letter_other : (b : ℕ) (s : List ℕ) → (b ≡ 105 → ⊥) → type_of (token (b ∷ s)) ≡ Err NoType
 unfolding type_of is_type
-letter_other b s k = token_split (λ t. type_of t ≡ NoType) b s refl (rw (ne_eqb b 105 k))
+letter_other b s k = token_split (λ t. type_of t ≡ Err NoType) b s refl (rw (ne_eqb b 105 k))
 
 digit_other : (b : ℕ) (s : List ℕ) → is_digit b ≡ false → is_numeral 2 (token (b ∷ s)) ≡ false
 unfolding is_numeral every
@@ -121,7 +122,7 @@ unfolding is_numeral
 numeral_long t h = rw (lt-leb (length t) 2 h, and_false)
 
 -- a zero leads
-zero_leads : (b c : ℕ) (t : List ℕ) → type_of (b ∷ 48 ∷ c ∷ t) ≡ NoType
+zero_leads : (b c : ℕ) (t : List ℕ) → type_of (b ∷ 48 ∷ c ∷ t) ≡ Err NoType
 unfolding type_of is_type leading_zero
 zero_leads b c t = rw and_false
 
@@ -142,7 +143,7 @@ token_step : (f : List ℕ) (i n : ℕ) → i < length f → n ≡ suc i → is_
 token_step f i n h e k = token_at_lem f i n h e ∙ token_more (get_or f i 0) (drop n f) k
 
 -- no type that is read, and none that is there
-pub none_read : (r type : TypeRead) (end stop : ℕ) → r ≡ NoType → type ≡ NoType → (r ≡ type) × StopsAt end stop r
+pub none_read : (r type : TypeRead) (end stop : ℕ) → r ≡ Err NoType → type ≡ Err NoType → (r ≡ type) × StopsAt end stop r
 none_read r type end stop hr e = (hr ∙ sym e, rw hr tt)
 
 -- ---- the K of a type, from `at` on
@@ -162,18 +163,18 @@ stops : (f : List ℕ) (at stop k : ℕ) (r : TypeRead) → r ≡ width_of k →
 unfolding past
 stops f at stop k r hr e h = (hr ∙ sym e, rw hr (go (is_width k)))
   where
-    go : (t : Bool) → StopsAt (at + length (token (drop at f))) stop (cond t (Width k) NoWidth)
+    go : (t : Bool) → StopsAt (at + length (token (drop at f))) stop (cond t (Ok k) (Err NoWidth))
     go true = sym h
     go false = sym h
 
 module _ (f : List ℕ) (at : ℕ) where
   -- the text ends
-  pub width_none : length f ≤ at → found f at ≡ NoType
+  pub width_none : length f ≤ at → found f at ≡ Err NoType
   width_none h = rw (run_end (is_of Solid) f at h) (letter_alone 105)
 
   -- a first byte
   module _ (h : at < length f) where
-    pub width_other : is_digit (get_or f at 0) ≡ false → found f at ≡ NoType
+    pub width_other : is_digit (get_or f at 0) ≡ false → found f at ≡ Err NoType
     width_other e = rw (token_at_lem f at (at + 1) h (omega arith)) (letter_no 105 _ (digit_other (get_or f at 0) (drop (at + 1) f) e))
 
     pub led : is_digit (get_or f at 0) ≡ true → Led f at
@@ -189,20 +190,20 @@ module _ (f : List ℕ) (at : ℕ) where
 
   -- two bytes
   module _ (l : Longer f at) where
-    pub width_second : is_digit (get_or f (at + 1) 0) ≡ false → found f at ≡ NoType
+    pub width_second : is_digit (get_or f (at + 1) 0) ≡ false → found f at ≡ Err NoType
     width_second e = rw l (letter_no 105 _ (second_other (get_or f at 0) (get_or f (at + 1) 0) (token (drop (at + 2) f)) e))
 
-    width_zero : is_digit (get_or f at 0) ≡ true → get_or f at 0 - 48 ≡ 0 → found f at ≡ NoType
+    width_zero : is_digit (get_or f at 0) ≡ true → get_or f at 0 - 48 ≡ 0 → found f at ≡ Err NoType
     width_zero d z = let e : get_or f at 0 ≡ 48 = omega (arith, digit_bounds (get_or f at 0) d) in rw (l, e) (zero_leads 105 (get_or f (at + 1) 0) (token (drop (at + 2) f)))
 
-    width_long : ends_token (drop (at + 2) f) ≡ false → found f at ≡ NoType
+    width_long : ends_token (drop (at + 2) f) ≡ false → found f at ≡ Err NoType
     width_long e = rw l (letter_no 105 _ (numeral_long _ (omega (arith, token_goes (drop (at + 2) f) e))))
 
     -- a zero leads, or the token goes on
-    pub width_not : is_digit (get_or f at 0) ≡ true → (not (eqb (get_or f at 0 - 48) 0) && ends_token (drop (at + 2) f)) ≡ false → found f at ≡ NoType
+    pub width_not : is_digit (get_or f at 0) ≡ true → (not (eqb (get_or f at 0 - 48) 0) && ends_token (drop (at + 2) f)) ≡ false → found f at ≡ Err NoType
     width_not d = go (eqb (get_or f at 0 - 48) 0) refl
       where
-        go : (zero : Bool) → eqb (get_or f at 0 - 48) 0 ≡ zero → (not zero && ends_token (drop (at + 2) f)) ≡ false → found f at ≡ NoType
+        go : (zero : Bool) → eqb (get_or f at 0 - 48) 0 ≡ zero → (not zero && ends_token (drop (at + 2) f)) ≡ false → found f at ≡ Err NoType
         go true z e = width_zero d (eqb-true _ _ z)
         go false z e = width_long e
 
@@ -214,18 +215,18 @@ module _ (f : List ℕ) (at : ℕ) where
 
 -- ---- the colon and the letter, from `at` on
 module _ (f : List ℕ) (at : ℕ) where
-  pub type_short : length f - at < 2 → type_behind_colon (token (drop at f)) ≡ NoType
+  pub type_short : length f - at < 2 → type_behind_colon (token (drop at f)) ≡ Err NoType
   type_short h = behind_short (token (drop at f)) (omega (arith, simp length-take at (ap length (run_take (is_of Solid) (drop at f))), length-drop at f))
 
   module _ (h : 2 ≤ length f - at) where
-    pub type_colon : (get_or f at 0 ≡ 58 → ⊥) → type_behind_colon (token (drop at f)) ≡ NoType
+    pub type_colon : (get_or f at 0 ≡ 58 → ⊥) → type_behind_colon (token (drop at f)) ≡ Err NoType
     type_colon k = rw (drop-cons f at 0 (omega arith)) (colon_other (get_or f at 0) (drop (suc at) f) k)
 
     module _ (c : get_or f at 0 ≡ 58) where
       colon_read : token (drop at f) ≡ 58 ∷ token (drop (at + 1) f)
       colon_read = token_step f at (at + 1) (omega arith) (omega arith) (rw c solid_colon) ∙ rw c
 
-      pub type_letter : (get_or f (at + 1) 0 ≡ 105 → ⊥) → type_behind_colon (token (drop at f)) ≡ NoType
+      pub type_letter : (get_or f (at + 1) 0 ≡ 105 → ⊥) → type_behind_colon (token (drop at f)) ≡ Err NoType
       type_letter k = rw (colon_read, token_at_lem f (at + 1) (at + 2) (omega arith) (omega arith)) (colon_no 58 _ (letter_other (get_or f (at + 1) 0) (drop (at + 2) f) k))
 
       -- behind them stands the K, whose token is the same

@@ -3,7 +3,7 @@ use Rattle.std.specs.Prelude.{ℕ, suc, ◌+◌, ◌≤◌, ◌≡◌, ◌↔◌
 use Prim.Native.Char.{code}
 use Rattle.edition.specs.Edition.{max_file_bytes}
 use Rattle.refusal.specs.Lists.{every}
-use Rattle.refusal.specs.Result.{Result, accepted}
+use Rattle.refusal.specs.Result.{Reply, Ok}
 use Rattle.text.specs.Bytes.{front_of, is_line_feed, is_carriage_return}
 use Rattle.text.specs.Lines.{TextLine, text_lines}
 
@@ -37,13 +37,13 @@ abbrev pub ReturnsKeepContents : Type 0
 ReturnsKeepContents = (bytes : List ℕ) → NoReturn bytes → contents bytes ≡ contents (with_returns bytes)
 
 -- what a reader accepts, it takes for the same as any file, not too long, whose lines have the same contents, however they end
-abbrev pub ContentsDecide : {A : Type 0} → (List ℕ → Result A) → Type 0
-ContentsDecide {A} read = (a b : List ℕ) (x : A) → contents a ≡ contents b → length b ≤ max_file_bytes → read a ≡ accepted x → read b ≡ accepted x
+abbrev pub ContentsDecide : {A : Type 0} → (List ℕ → Reply A) → Type 0
+ContentsDecide {A} read = (a b : List ℕ) (x : A) → contents a ≡ contents b → length b ≤ max_file_bytes → read a ≡ Ok x → read b ≡ Ok x
 
 -- so a file without CR is taken for the same as with a CR put in front of every LF, unless that makes it too long
-abbrev pub ReturnsChangeNothing : {A : Type 0} → (List ℕ → Result A) → Type 0
-ReturnsChangeNothing {A} read = (bytes : List ℕ) (x : A) → NoReturn bytes → length (with_returns bytes) ≤ max_file_bytes → (read bytes ≡ accepted x) ↔ (read (with_returns bytes) ≡ accepted x)
+abbrev pub ReturnsChangeNothing : {A : Type 0} → (List ℕ → Reply A) → Type 0
+ReturnsChangeNothing {A} read = (bytes : List ℕ) (x : A) → NoReturn bytes → length (with_returns bytes) ≤ max_file_bytes → (read bytes ≡ Ok x) ↔ (read (with_returns bytes) ≡ Ok x)
 
 -- "any other CR stays refused": in a file that a reader accepts, LF stands directly behind each CR
-abbrev pub NoOtherReturn : {A : Type 0} → (List ℕ → Result A) → Type 0
-NoOtherReturn {A} read = (bytes : List ℕ) (x : A) → read bytes ≡ accepted x → (i : ℕ) → is_carriage_return (get_or bytes i 0) ≡ true → is_line_feed (get_or bytes (suc i) 0) ≡ true
+abbrev pub NoOtherReturn : {A : Type 0} → (List ℕ → Reply A) → Type 0
+NoOtherReturn {A} read = (bytes : List ℕ) (x : A) → read bytes ≡ Ok x → (i : ℕ) → is_carriage_return (get_or bytes i 0) ≡ true → is_line_feed (get_or bytes (suc i) 0) ≡ true

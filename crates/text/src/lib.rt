@@ -27,44 +27,37 @@ pub struct Span {
     pub stop: usize,
 }
 
-// A line: where its content ends, and where the next line starts; or its first byte that is not allowed.
+// A line: where its content ends, and where the next line starts.
 #[derive(Clone, Copy)]
-pub enum LineFound {
-    Ends(usize, usize),
-    Faulty(usize),
+pub struct LineEnd {
+    pub stop: usize,
+    pub next: usize,
 }
 
-// The next token of a line.
-#[derive(Clone, Copy)]
-pub enum NextToken {
-    OneMore(Span),
-    NoMore,
-}
-
-#[derive(Clone, Copy)]
-pub enum Number {
-    Value(u64),
+// Why a text is no number that a word holds.
+#[derive(Clone, Copy, PartialEq, Eq)]
+pub enum NumberError {
     TooBig,
-    Misspelt,
+    NotANumber,
 }
 
 // The number that digits make, and where they stop.
 #[derive(Clone, Copy)]
 pub struct Digits {
-    pub number: Number,
+    pub number: Result<u64, NumberError>,
     pub stop: usize,
 }
 
-#[derive(Clone, Copy)]
-pub enum TypeRead {
-    Width(u64),
+// Why a text is no type: its width is none, or it is not spelt as a type.
+#[derive(Clone, Copy, PartialEq, Eq)]
+pub enum TypeError {
     NoWidth,
     NoType,
 }
 
-// A type, and where its token stops.
+// The width of a type, and where the type's token stops.
 #[derive(Clone, Copy)]
 pub struct TypeFound {
-    pub kind: TypeRead,
+    pub width: Result<u64, TypeError>,
     pub stop: usize,
 }

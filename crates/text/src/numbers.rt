@@ -2,13 +2,13 @@
 ghost use Rattle.std.specs.Prelude.{◌≡◌, cond, ◌&&◌, ◌+◌, ◌≤◌, leb, length, drop};
 ghost use Rattle.edition.specs.Edition.{is_width};
 ghost use Rattle.text.specs.declared.Class.TheVariants.{Digit, Solid};
-ghost use Rattle.text.specs.declared.Number.TheVariants.{TooBig, Misspelt};
-ghost use Rattle.text.specs.declared.TypeRead.TheVariants.{Width, NoWidth, NoType};
+ghost use Rattle.text.specs.declared.NumberError.TheVariants.{TooBig, NotANumber};
+ghost use Rattle.text.specs.declared.TypeError.TheVariants.{NoWidth, NoType};
 ghost use Rattle.text.specs.Bytes.{front_of};
 ghost use Rattle.text.specs.Scan.{is_of, past, magnitude, number_read, type_with_digits, type_behind_colon, StopsAt};
 
 use super::scan::{is_digit, scan, token_ends};
-use super::{Class, Digits, Number, TypeFound, TypeRead};
+use super::{Class, Digits, NumberError, TypeError, TypeFound};
 use edition::Edition;
 
 // The digits of a constant or a value, at most.
@@ -17,10 +17,10 @@ pub const MAX_DIGITS: usize = 20;
 // Digits whose number has passed 2^64 at `at`.
 fn too_big(text: &[u8], at: usize) -> Digits
     requires { at ≤ length text.now }
-    ensures { (result.number ≡ TooBig) × (result.stop ≡ past (is_of Digit) text.now at) }
+    ensures { (result.number ≡ Err TooBig) × (result.stop ≡ past (is_of Digit) text.now at) }
 {
     Digits {
-        number: Number::TooBig,
+        number: Err(NumberError::TooBig),
         stop: scan(text, at, Class::Digit),
     }
 }
@@ -35,7 +35,7 @@ pub fn digits_at(text: &[u8], at: usize) -> Digits
     while i < text.len() {
         if !is_digit(text[i]) {
             return Digits {
-                number: Number::Value(n),
+                number: Ok(n),
                 stop: i,
             };
         }
@@ -51,26 +51,27 @@ pub fn digits_at(text: &[u8], at: usize) -> Digits
         i += 1;
     }
     Digits {
-        number: Number::Value(n),
+        number: Ok(n),
         stop: i,
     }
 }
 
 // The number, if it has 1 to `most` digits.
-pub fn within_digits(number: Number, digits: usize, most: usize) -> Number
-    ensures { result ≡ cond (leb 1 digits && leb digits most) number Misspelt }
+pub fn within_digits(
+    number: Result<u64, NumberError>,
+    digits: usize,
+    most: usize,
+) -> Result<u64, NumberError>
+    ensures { result ≡ cond (leb 1 digits && leb digits most) number (Err NotANumber) }
 {
-    if digits == 0 {
-        return Number::Misspelt;
-    }
-    if most < digits {
-        return Number::Misspelt;
+    if digits == 0 || most < digits {
+        return Err(NumberError::NotANumber);
     }
     number
 }
 
 // The number of 1 to `most` digits from `at` to the end.
-pub fn number_at(text: &[u8], at: usize, most: usize) -> Number
+pub fn number_at(text: &[u8], at: usize, most: usize) -> Result<u64, NumberError>
     requires { at ≤ length text.now }
     ensures { result ≡ number_read most (drop at text.now) }
 {
@@ -78,13 +79,13 @@ pub fn number_at(text: &[u8], at: usize, most: usize) -> Number
     let stop = digits.stop;
     let number = digits.number;
     if stop < text.len() {
-        return Number::Misspelt;
+        return Err(NumberError::NotANumber);
     }
     within_digits(number, stop - at, most)
 }
 
 // The number of 1 to `most` digits behind the byte at `at`; none where the text ends there.
-pub fn number_behind(text: &[u8], at: usize, most: usize) -> Number
+pub fn number_behind(text: &[u8], at: usize, most: usize) -> Result<u64, NumberError>
     requires { at ≤ length text.now }
     ensures { result ≡ number_read most (drop (at + 1) text.now) }
 {
@@ -92,27 +93,27 @@ pub fn number_behind(text: &[u8], at: usize, most: usize) -> Number
         let next = at + 1;
         number_at(text, next, most)
     } else {
-        Number::Misspelt
+        Err(NumberError::NotANumber)
     }
 }
 
 // A width that is spelt right.
-fn width(k: u64) -> TypeRead
-    ensures { result ≡ cond (is_width k) (Width k) NoWidth }
+fn width(k: u64) -> Result<u64, TypeError>
+    ensures { result ≡ cond (is_width k) (Ok k) (Err NoWidth) }
 {
     if Edition::is_width(k) {
-        TypeRead::Width(k)
+        Ok(k)
     } else {
-        TypeRead::NoWidth
+        Err(TypeError::NoWidth)
     }
 }
 
 // No type from `at` on.
 fn no_type(at: usize) -> TypeFound
-    ensures { result.kind ≡ NoType }
+    ensures { result.width ≡ Err NoType }
 {
     TypeFound {
-        kind: TypeRead::NoType,
+        width: Err(TypeError::NoType),
         stop: at,
     }
 }
@@ -120,7 +121,7 @@ fn no_type(at: usize) -> TypeFound
 // The K of a type, from `at` to the end of the token: one or two digits.
 fn width_at(line: &[u8], at: usize) -> TypeFound
     requires { at ≤ length line.now }
-    ensures { (result.kind ≡ type_with_digits (front_of (is_of Solid) (drop at line.now))) × StopsAt (past (is_of Solid) line.now at) result.stop result.kind }
+    ensures { (result.width ≡ type_with_digits (front_of (is_of Solid) (drop at line.now))) × StopsAt (past (is_of Solid) line.now at) result.stop result.width }
 {
     if at == line.len() {
         return no_type(at);
@@ -132,7 +133,7 @@ fn width_at(line: &[u8], at: usize) -> TypeFound
     let next = at + 1;
     if token_ends(line, next) {
         return TypeFound {
-            kind: width(a),
+            width: width(a),
             stop: next,
         };
     }
@@ -143,7 +144,7 @@ fn width_at(line: &[u8], at: usize) -> TypeFound
     let stop = at + 2;
     if (a != 0) & token_ends(line, stop) {
         return TypeFound {
-            kind: width(a * 10 + b),
+            width: width(a * 10 + b),
             stop,
         };
     }
@@ -153,7 +154,7 @@ fn width_at(line: &[u8], at: usize) -> TypeFound
 // The colon and the type `iK` from `at` to the end of the token; where they are not there, it is left open where the token stops.
 pub fn type_at(line: &[u8], at: usize) -> TypeFound
     requires { at ≤ length line.now }
-    ensures { (result.kind ≡ type_behind_colon (front_of (is_of Solid) (drop at line.now))) × StopsAt (past (is_of Solid) line.now at) result.stop result.kind }
+    ensures { (result.width ≡ type_behind_colon (front_of (is_of Solid) (drop at line.now))) × StopsAt (past (is_of Solid) line.now at) result.stop result.width }
 {
     if line.len() - at < 2 {
         return no_type(at);

@@ -4,9 +4,11 @@ ghost use Rattle.refusal.specs.Lists.{every};
 ghost use Rattle.text.specs.Bytes.{is_space, is_digit, is_letter, is_name_byte, is_printing, is_allowed};
 ghost use Rattle.text.specs.Lines.{terminator_length, line_of, tokens_from, leads as leadsBy};
 ghost use Rattle.text.specs.declared.Class.TheVariants.{Space, Printing};
+ghost use Rattle.text.specs.Reading.{no_more_tokens};
 ghost use Rattle.text.specs.Scan.{is_of, past, stop_digit, stop_digits_at, found_line, ends_token, tokens_by, Within};
 
-use super::{Class, LineFound, NextToken, Span};
+use super::{Class, LineEnd, Span};
+use refusal::{Fault, Refusal, Subject};
 
 fn is_space(b: u8) -> bool
     ensures { result ≡ is_space b }
@@ -196,33 +198,44 @@ fn terminator_length(file: &[u8], at: usize) -> usize
     }
 }
 
-// The line from `at` on. Its terminator is not allowed in it, so that one scan finds its end and a byte that is not allowed.
-pub fn find_line(file: &[u8], at: usize) -> LineFound
+// The line from `at` on, or the place of its first byte that is not allowed. Its terminator is not allowed in it, so that one scan finds its end and a byte that is not allowed.
+pub fn find_line(file: &[u8], at: usize) -> Result<LineEnd, usize>
     requires { at ≤ length file.now }
     ensures { result ≡ found_line (line_of at (drop at file.now)) }
 {
     let stop = allowed(file, at);
     if file.len() <= stop {
-        return LineFound::Ends(stop, stop);
+        return Ok(LineEnd { stop, next: stop });
     }
     let next = stop + terminator_length(file, stop);
     if next == stop {
-        return LineFound::Faulty(stop);
+        return Err(stop);
     }
-    LineFound::Ends(stop, next)
+    Ok(LineEnd { stop, next })
 }
 
-// The first token of a line from `at` on.
-pub fn next_token(line: &[u8], at: usize) -> NextToken
+// The first token of a line from `at` on, if there is one.
+pub fn next_token(line: &[u8], at: usize) -> Option<Span>
     requires { at ≤ length line.now }
     ensures { (tokens_from true at (drop at line.now) ≡ tokens_by line.now result) × Within line.now at result }
 {
     let start = scan(line, at, Class::Space);
     if start == line.len() {
-        return NextToken::NoMore;
+        return None;
     }
     let stop = scan(line, start, Class::Solid);
-    NextToken::OneMore(Span { start, stop })
+    Some(Span { start, stop })
+}
+
+// There must be no token from `at` on.
+pub fn no_more_tokens(subject: Subject, line: &[u8], at: usize) -> Result<(), Refusal>
+    requires { at ≤ length line.now }
+    ensures { result ≡ no_more_tokens subject (tokens_from true at (drop at line.now)) }
+{
+    match next_token(line, at) {
+        Some(t) => Err(Refusal::of(subject, Fault::TokenCount, t.start)),
+        None => Ok(()),
+    }
 }
 
 // Whether the line from `at` on starts with a letter, then white space or the line's end.

@@ -1,10 +1,10 @@
-// What the check and the report answer, printed as the scope document has it, and tables of verdicts.
+// What the check and the report answer, printed as the scope document has it.
 #![tactic(auto)]
 
 use judge::Overall;
+use refusal::Refusal;
 use report::{REPORT_BYTES, put_overall, report_on};
 use std::io::{self, Write};
-use tables::CheckReply;
 
 // Prints the overall verdict, with no line end.
 pub fn print_overall<W: Write>(output: &mut W, overall: Overall) -> io::Result<()> {
@@ -20,19 +20,11 @@ pub fn print_report<W: Write>(output: &mut W, constraint: &[u8], answer: &[u8]) 
     output.write_all(&room[..n])
 }
 
-// Prints the entries of a table, a space behind each, and a line end.
-pub fn print_verdicts<W: Write>(output: &mut W, verdicts: &[u8]) -> io::Result<()> {
-    for verdict in verdicts {
-        write!(output, "{verdict} ")?;
-    }
-    output.write_all(b"\n")
-}
-
 // Prints the overall verdict or the refusal, and a line end.
-pub fn print_reply<W: Write>(output: &mut W, reply: CheckReply) -> io::Result<()> {
+pub fn print_reply<W: Write>(output: &mut W, reply: Result<Overall, Refusal>) -> io::Result<()> {
     match reply {
-        CheckReply::Checked(overall) => print_overall(output, overall)?,
-        CheckReply::Refused(refusal) => reporting::print_refusal(output, refusal)?,
+        Ok(overall) => print_overall(output, overall)?,
+        Err(refusal) => reporting::print_refusal(output, refusal)?,
     }
     output.write_all(b"\n")
 }

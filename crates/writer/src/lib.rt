@@ -13,15 +13,12 @@ ghost use Rattle.writer.specs.Text.{answer_text};
 
 use answers::{answer_length, put_answer};
 use edition::Edition;
-use judge::Judged;
+use judge::Verdict;
 use judge::in_use::first_unfit;
 use judge::lines::judge_line;
-use printing::WriteReply;
-use printing::output::refused;
 use reader::reading::read;
-use refusal::{Refusal, Subject};
+use refusal::{Fault, Refusal, Subject};
 use store::lines::{TABLE_BODIES, TABLE_HEADS};
-use store::{Found, Step};
 
 mod answers;
 pub mod claims;
@@ -39,11 +36,10 @@ fn satisfies<'a>(
     let mut k = 0;
     while k < m {
         let judged = judge_line(row, heads, bodies, k);
-        if judged.verdict == Judged::HOLDS {
-            k += 1;
-        } else {
+        if judged.verdict != Verdict::Holds {
             return false;
         }
+        k += 1;
     }
     true
 }
@@ -55,43 +51,36 @@ fn write_row(
     n: usize,
     row: &[u64],
     output: &mut [u8],
-) -> WriteReply
+) -> Result<usize, Refusal>
     requires { (length file.now ≤ max_file_bytes) × (n ≤ max_variables) × (length row.now ≡ n) }
     ensures { record { reply = result; output = output.new } ≡ written output.old (room_for (answer_text (variables_in file.now variables.now n) row.now) (length output.old)) }
 {
     let length = answer_length(file, variables, n, row);
     if output.len() < length {
-        return refused(Refusal::TOO_SHORT, Subject::Output, 0);
+        return Err(Refusal::of(Subject::Output, Fault::TooShort, 0));
     }
     put_answer(file, variables, n, row, output);
-    WriteReply::Written(length)
+    Ok(length)
 }
 
-// Writes the answer with the values in use of a lent table, any numbers, to a constraint file, any bytes.
-pub fn write(constraint: &[u8], values: &[u64], output: &mut [u8]) -> WriteReply
+// Writes the answer with the values in use of a lent table, any numbers, to a constraint file, any bytes, and says how long it is.
+pub fn write(constraint: &[u8], values: &[u64], output: &mut [u8]) -> Result<usize, Refusal>
     ensures { record { reply = result; output = output.new } ≡ write_outcome constraint.now values.now output.old }
 {
     let mut variables = [0u64; Edition::VARIABLES];
     let mut heads = [0u8; TABLE_HEADS];
     let mut bodies = [0u64; TABLE_BODIES];
-    match read(constraint, &mut variables, &mut heads, &mut bodies) {
-        Step::Stop(r) => WriteReply::Refused(r),
-        Step::Next(p) => {
-            let n = p.variables;
-            if values.len() < n {
-                return refused(Refusal::TOO_SHORT, Subject::Values, 0);
-            }
-            match first_unfit(&variables, n, values) {
-                Found::At(i) => refused(Refusal::HELD_DOES_NOT_FIT, Subject::Values, i),
-                Found::Nowhere => {
-                    let row = &values[..n];
-                    if satisfies(&heads, &bodies, p.lines, row) {
-                        write_row(constraint, &variables, n, row, output)
-                    } else {
-                        refused(Refusal::NOT_SATISFIED, Subject::Values, 0)
-                    }
-                }
-            }
-        }
+    let p = read(constraint, &mut variables, &mut heads, &mut bodies)?;
+    let n = p.variables;
+    if values.len() < n {
+        return Err(Refusal::of(Subject::Values, Fault::TooShort, 0));
     }
+    if let Some(i) = first_unfit(&variables, n, values) {
+        return Err(Refusal::of(Subject::Values, Fault::HeldDoesNotFit, i));
+    }
+    let row = &values[..n];
+    if !satisfies(&heads, &bodies, p.lines, row) {
+        return Err(Refusal::of(Subject::Values, Fault::NotSatisfied, 0));
+    }
+    write_row(constraint, &variables, n, row, output)
 }

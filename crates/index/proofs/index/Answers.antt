@@ -1,9 +1,6 @@
-use mathlib.Core.Path.{◌≡◌, refl}
+use mathlib.Core.Path.{refl}
 use borrow.Author.Rules.{rules}
-use Rattle.refusal.specs.Result.{accepted}
-use Rattle.constraint.specs.Read.{read_file}
-use Rattle.store.specs.Tables.{store_of}
-use Rattle.store.specs.Progress.{stored_file, InTables}
+use Rattle.std.proofs.lemmas.Result.{err_from_is_err_and}
 use Rattle.store.proofs.LookupLaws.{variables_length}
 use Rattle.store.proofs.SearchLaws.{searchable_none}
 use Rattle.index.specs.Index.{indexing}
@@ -14,16 +11,14 @@ read-requires c = (search rules, searchable_none _)
 
 pub index_held-requires : goal.index_held-requires
 index_held-requires c =
-    let in_tables : (InTables (c.in-Next.p)) = rw c.in-Next.is at c.read.ensures.2 in
-    let sized = c.read.ensures.1 in
+    let sized = c.in_ok-p.ensures.1 in
+    let in_tables = c.in_ok-p.ensures.2 in
     (sized.heads, sized.bodies, in_tables.variables, in_tables.lines)
 
-pub returns-in-Stop : goal.returns-in-Stop
+pub returns-in_err-p : goal.returns-in_err-p
 unfolding indexing
-returns-in-Stop c = rw (← (rw c.in-Stop.is at c.read.ensures.0))
+returns-in_err-p c = let p = err_from_is_err_and c.from_residual.result c.from_residual.ensures.1 in rw (p.1, p.2, ← c.in_err-p.ensures.0)
 
-pub returns-in-Next : goal.returns-in-Next
+pub returns : goal.returns
 unfolding indexing
-returns-in-Next c =
-    let file_read : (accepted (stored_file (c.args.constraint.now) (store_of c.read.new.variables c.read.new.heads c.read.new.bodies) (c.in-Next.p)) ≡ read_file (c.args.constraint.now)) = rw c.in-Next.is at c.read.ensures.0 in
-    rw (← file_read) (c.index_held.ensures (stored_file (c.args.constraint.now) (store_of c.read.new.variables c.read.new.heads c.read.new.bodies) (c.in-Next.p)) (variables_length (c.args.constraint.now) (store_of c.read.new.variables c.read.new.heads c.read.new.bodies).variables (c.in-Next.p).variables) refl)
+returns c = rw (← c.in_ok-p.ensures.0) (c.index_held.ensures _ (variables_length _ _ _) refl)

@@ -1,50 +1,44 @@
-use Prim.Native.Nat.{◌+◌, ◌≤◌, ◌<◌}
+use Prim.Native.Nat.{◌+◌}
 use mathlib.Core.Path.{◌≡◌, sym, ◌∙◌}
 use mathlib.Core.Bool.{true}
 use mathlib.Core.List.{◌∷◌}
 use native.Mathlib.Nat.{le_of_lt}
-use native.Mathlib.Omega.{arith}
-use lib.ListN.{length, take, drop}
-use lib.Seq.{length-take-le}
+use lib.ListN.{take, drop}
+use borrow.Author.Rules.{rules}
+use Rattle.refusal.specs.Result.{refused_as}
 use Rattle.text.specs.Lines.{tokens_from}
 use Rattle.text.specs.Scan.{token_at}
-use Rattle.answer.proofs.SolutionLaws.{solution_misplaced, solution_missing, solution_satisfiable, solution_otherwise, solution_none}
+use Rattle.store.proofs.ExitLaws.{mapped, exit}
+use Rattle.answer.specs.Read.{in_answer, solution_of}
+use Rattle.answer.proofs.SolutionLaws.{solution_misplaced, solution_missing, solution_other, solution_surplus, solution_read}
 use Rattle.answer.proofs.solutions.solution_line.Goals as goal
+use Rattle.answer.proofs.solutions.solution_line.Goals.{In-Some, After-map_err}
 
 pub returns-then-solved : goal.returns-then-solved
-returns-then-solved c = λ vs next. let a = c.args in rw c.refusal.ensures (solution_misplaced a.solved vs a.line.now a.at next c.if-solved.true)
+returns-then-solved c = λ vs next. let a = c.args in rw c.of.ensures (solution_misplaced a.solved vs a.line.now a.at next c.if-solved.true)
 
-pub slice_bounds-solution_at-end : goal.slice_bounds-solution_at-end
-slice_bounds-solution_at-end c =
-    let bounds : ((c.in-OneMore.t.start < c.in-OneMore.t.stop) × (c.in-OneMore.t.stop ≤ length c.args.line.now)) = let w = rw c.in-OneMore.is at c.next_token.ensures.1 in (w.1, w.2) in
-    let long : (length (take c.in-OneMore.t.stop c.args.line.now) ≡ c.in-OneMore.t.stop) = length-take-le c.in-OneMore.t.stop c.args.line.now bounds.1 in
-    sym long
+pub returns-in_default : goal.returns-in_default
+returns-in_default c = λ vs next. let a = c.args in rw c.of-in_default.ensures (solution_missing a.solved vs a.line.now a.at next c.if-solved.false (le_of_lt c.requires) (rw c.in_default.is at c.next_token.ensures.0))
 
-pub solution_at-requires : goal.solution_at-requires
-solution_at-requires c =
-    let bounds : ((c.in-OneMore.t.start < c.in-OneMore.t.stop) × (c.in-OneMore.t.stop ≤ length c.args.line.now)) = let w = rw c.in-OneMore.is at c.next_token.ensures.1 in (w.1, w.2) in
-    let long : (length (take c.in-OneMore.t.stop c.args.line.now) ≡ c.in-OneMore.t.stop) = length-take-le c.in-OneMore.t.stop c.args.line.now bounds.1 in
-    omega (arith, long, bounds)
+-- a first token
+tokens : (c : In-Some) → let a = c.args in let w = c.in-Some.word in tokens_from true (a.at + 1) (drop (a.at + 1) a.line.now) ≡ token_at (take w.stop a.line.now) w.start ∷ tokens_from true w.stop (drop w.stop a.line.now)
+tokens c = rw c.in-Some.is at c.next_token.ensures.0
 
-pub unless_more-requires : goal.unless_more-requires
-unless_more-requires c =
-    let bounds : ((c.in-OneMore.t.start < c.in-OneMore.t.stop) × (c.in-OneMore.t.stop ≤ length c.args.line.now)) = let w = rw c.in-OneMore.is at c.next_token.ensures.1 in (w.1, w.2) in
-    bounds.1
+-- what it says
+told : (c : After-map_err) → let w = c.in-Some.word in let t = token_at (take w.stop c.args.line.now) w.start in c.map_err.result ≡ refused_as (in_answer t) (solution_of t.bytes)
+told c = rw (← c.solution_at.ensures) (mapped _ _ _ c.map_err.ensures.cases (λ fault r k. search rules))
 
-pub returns-in-NoMore : goal.returns-in-NoMore
-returns-in-NoMore c = λ vs next. let a = c.args in rw c.refusal-in-NoMore.ensures (solution_missing a.solved vs a.line.now a.at next c.if-solved.false (le_of_lt c.requires) (rw c.in-NoMore.is at c.next_token.ensures.0))
+pub returns-in_err-map_err : goal.returns-in_err-map_err
+returns-in_err-map_err c = λ vs next. let a = c.args in
+    let at = goal.at.returns-in_err-map_err c in
+    rw (exit c.from_residual.result c.in_err-map_err.field-0.0 c.from_residual.ensures) (solution_other a.solved vs a.line.now a.at next c.if-solved.false (tokens at.In-Some) _ (sym c.in_err-map_err.was ∙ told at.After-map_err))
 
-pub returns-in-Satisfiable : goal.returns-in-Satisfiable
-returns-in-Satisfiable c =
-    let tokens : (let a = c.args in tokens_from true (a.at + 1) (drop (a.at + 1) a.line.now) ≡ token_at (take c.in-OneMore.t.stop a.line.now) c.in-OneMore.t.start ∷ tokens_from true c.in-OneMore.t.stop (drop c.in-OneMore.t.stop a.line.now)) = rw c.in-OneMore.is at c.next_token.ensures.0 in
-    λ vs next. let a = c.args in c.unless_more.ensures vs ∙ solution_satisfiable a.solved vs a.line.now a.at next c.if-solved.false tokens (sym c.in-Satisfiable.is ∙ c.solution_at.ensures)
+pub returns-in_err-no_more_tokens : goal.returns-in_err-no_more_tokens
+returns-in_err-no_more_tokens c = λ vs next. let a = c.args in
+    let at = goal.at.returns-in_err-no_more_tokens c in
+    rw (exit c.from_residual-in_err-no_more_tokens.result c.in_err-no_more_tokens.field-0.0 c.from_residual-in_err-no_more_tokens.ensures) (solution_surplus a.solved vs a.line.now a.at next c.if-solved.false (tokens at.In-Some) (sym c.in_ok-map_err.was ∙ told at.After-map_err) _ (sym c.in_err-no_more_tokens.was ∙ c.no_more_tokens.ensures))
 
-pub returns-in-Otherwise : goal.returns-in-Otherwise
-returns-in-Otherwise c =
-    let tokens : (let a = c.args in tokens_from true (a.at + 1) (drop (a.at + 1) a.line.now) ≡ token_at (take c.in-OneMore.t.stop a.line.now) c.in-OneMore.t.start ∷ tokens_from true c.in-OneMore.t.stop (drop c.in-OneMore.t.stop a.line.now)) = rw c.in-OneMore.is at c.next_token.ensures.0 in
-    λ vs next. let a = c.args in rw c.refusal-in-Otherwise.ensures (solution_otherwise a.solved vs a.line.now a.at next c.if-solved.false tokens (sym c.in-Otherwise.is ∙ c.solution_at.ensures))
-
-pub returns-in-NoWord : goal.returns-in-NoWord
-returns-in-NoWord c =
-    let tokens : (let a = c.args in tokens_from true (a.at + 1) (drop (a.at + 1) a.line.now) ≡ token_at (take c.in-OneMore.t.stop a.line.now) c.in-OneMore.t.start ∷ tokens_from true c.in-OneMore.t.stop (drop c.in-OneMore.t.stop a.line.now)) = rw c.in-OneMore.is at c.next_token.ensures.0 in
-    λ vs next. let a = c.args in rw c.refusal-in-NoWord.ensures (solution_none a.solved vs a.line.now a.at next c.if-solved.false tokens (sym c.in-NoWord.is ∙ c.solution_at.ensures))
+pub returns : goal.returns
+returns c = λ vs next. let a = c.args in
+    let at = goal.at.returns c in
+    solution_read a.solved vs a.line.now a.at next c.if-solved.false (tokens at.In-Some) (sym c.in_ok-map_err.was ∙ told at.After-map_err) (sym c.in_ok-no_more_tokens.was ∙ c.no_more_tokens.ensures)

@@ -1,129 +1,14 @@
-use Rattle.std.specs.Prelude.{◌≤◌}
-use native.Mathlib.Omega.{arith}
+use Rattle.std.proofs.Common.{sym}
+use Rattle.std.proofs.Math.ListN.{get_or-eq_default}
+use Rattle.std.proofs.lemmas.List.{get_or_default}
+use Rattle.arithmetic.specs.declared.Operator.TheVariants.{Extr}
 use Rattle.arithmetic.specs.Numbering.{listed, operator_numbered}
-use Rattle.arithmetic.proofs.NumberLaws.{last, at_least_missed}
 use Rattle.arithmetic.proofs.numbering.operator_numbered.Goals as goal
 
-pub returns-in-0 : goal.returns-in-0
+pub returns-then-n : goal.returns-then-n
 unfolding operator_numbered listed
-returns-in-0 c = rw c.in-0.is
+returns-then-n c = get_or_default listed c.args.n _ Extr c.if-n.true
 
-pub returns-in-1 : goal.returns-in-1
+pub returns-else-n : goal.returns-else-n
 unfolding operator_numbered listed
-returns-in-1 c = rw c.in-1.is
-
-pub returns-in-2 : goal.returns-in-2
-unfolding operator_numbered listed
-returns-in-2 c = rw c.in-2.is
-
-pub returns-in-3 : goal.returns-in-3
-unfolding operator_numbered listed
-returns-in-3 c = rw c.in-3.is
-
-pub returns-in-4 : goal.returns-in-4
-unfolding operator_numbered listed
-returns-in-4 c = rw c.in-4.is
-
-pub returns-in-5 : goal.returns-in-5
-unfolding operator_numbered listed
-returns-in-5 c = rw c.in-5.is
-
-pub returns-in-6 : goal.returns-in-6
-unfolding operator_numbered listed
-returns-in-6 c = rw c.in-6.is
-
-pub returns-in-7 : goal.returns-in-7
-unfolding operator_numbered listed
-returns-in-7 c = rw c.in-7.is
-
-pub returns-in-8 : goal.returns-in-8
-unfolding operator_numbered listed
-returns-in-8 c = rw c.in-8.is
-
-pub returns-in-9 : goal.returns-in-9
-unfolding operator_numbered listed
-returns-in-9 c = rw c.in-9.is
-
-pub returns-in-10 : goal.returns-in-10
-unfolding operator_numbered listed
-returns-in-10 c = rw c.in-10.is
-
-pub returns-in-11 : goal.returns-in-11
-unfolding operator_numbered listed
-returns-in-11 c = rw c.in-11.is
-
-pub returns-in-12 : goal.returns-in-12
-unfolding operator_numbered listed
-returns-in-12 c = rw c.in-12.is
-
-pub returns-in-13 : goal.returns-in-13
-unfolding operator_numbered listed
-returns-in-13 c = rw c.in-13.is
-
-pub returns-in-14 : goal.returns-in-14
-unfolding operator_numbered listed
-returns-in-14 c = rw c.in-14.is
-
-pub returns-in-15 : goal.returns-in-15
-unfolding operator_numbered listed
-returns-in-15 c = rw c.in-15.is
-
-pub returns-in-16 : goal.returns-in-16
-unfolding operator_numbered listed
-returns-in-16 c = rw c.in-16.is
-
-pub returns-in-17 : goal.returns-in-17
-unfolding operator_numbered listed
-returns-in-17 c = rw c.in-17.is
-
-pub returns-in-18 : goal.returns-in-18
-unfolding operator_numbered listed
-returns-in-18 c = rw c.in-18.is
-
-pub returns-in-19 : goal.returns-in-19
-unfolding operator_numbered listed
-returns-in-19 c = rw c.in-19.is
-
-pub returns-in-20 : goal.returns-in-20
-unfolding operator_numbered listed
-returns-in-20 c = rw c.in-20.is
-
-pub returns-in-21 : goal.returns-in-21
-unfolding operator_numbered listed
-returns-in-21 c = rw c.in-21.is
-
-pub returns-in-22 : goal.returns-in-22
-unfolding operator_numbered listed
-returns-in-22 c = rw c.in-22.is
-
-pub returns-in-23 : goal.returns-in-23
-unfolding operator_numbered listed
-returns-in-23 c = rw c.in-23.is
-
-pub returns-in-24 : goal.returns-in-24
-unfolding operator_numbered listed
-returns-in-24 c = rw c.in-24.is
-
-pub returns-in-25 : goal.returns-in-25
-unfolding operator_numbered listed
-returns-in-25 c = rw c.in-25.is
-
-pub returns-in-26 : goal.returns-in-26
-unfolding operator_numbered listed
-returns-in-26 c = rw c.in-26.is
-
-pub returns-in-27 : goal.returns-in-27
-unfolding operator_numbered listed
-returns-in-27 c = rw c.in-27.is
-
-pub returns-in-28 : goal.returns-in-28
-unfolding operator_numbered listed
-returns-in-28 c = rw c.in-28.is
-
-pub returns-in-29 : goal.returns-in-29
-unfolding operator_numbered listed
-returns-in-29 c = rw c.in-29.is
-
-pub returns-in_default : goal.returns-in_default
-unfolding operator_numbered listed
-returns-in_default c = let l : 30 ≤ c.args.n = omega arith in last c.args.n (at_least_missed 30 c.args.n l)
+returns-else-n c = sym (get_or-eq_default listed Extr c.if-n.false)

@@ -9,7 +9,7 @@ use Rattle.index.proofs.OutcomeLaws.{counts_start, counts_most, starts_short, li
 use Rattle.index.proofs.building.index_held.Goals as goal
 
 pub returns-then-starts-n : goal.returns-then-starts-n
-returns-then-starts-n c f v l = starts_short f _ _ _ _ v l _ _ _ c.refused.ensures c.if-starts-n.true
+returns-then-starts-n c f v l = starts_short f _ _ _ _ v l _ _ _ c.of.ensures c.if-starts-n.true
 
 pub count-requires : goal.count-requires
 count-requires c = (refl, c.requires.0, c.requires.1, c.requires.3, λ q h. get_or-replicate max_variables q 0 0 h)
@@ -20,7 +20,7 @@ accumulate-end-requires c = (c.count.ensures.0, c.requires.2, counts_most c.args
 pub returns-then-lists-end : goal.returns-then-lists-end
 returns-then-lists-end c f v l =
     let end_at : (c.accumulate-end.result ≡ own_start (held_file c.args.heads.now c.args.bodies.now c.args.m) c.args.n) = c.accumulate-end.ensures.1 ∙ counts_start c.args.heads.now c.args.bodies.now c.count.new.counts c.args.m c.count.ensures.1 c.args.n c.requires.2 in
-    lists_short f _ _ _ _ v l _ _ c.if-starts-n.false _ c.refused-then-lists-end.ensures (omega (arith, c.if-lists-end.true, end_at))
+    lists_short f _ _ _ _ v l _ _ c.if-starts-n.false _ c.of-then-lists-end.ensures (omega (arith, c.if-lists-end.true, end_at))
 
 pub list_all-requires : goal.list_all-requires
 list_all-requires c =

@@ -6,7 +6,7 @@ use Rattle.index.proofs.AlongLaws.{list_first, list_low, list_next, list_end}
 use Rattle.index.proofs.fitting.list_fits.Goals as goal
 
 pub loop-k-init : goal.loop-k-init
-loop-k-init c = let a = c.args in (c.lesser-end.ensures, omega arith, list_first a.m a.lists.now a.to a.from)
+loop-k-init c = let a = c.args in (c.min-end.ensures, omega arith, list_first a.m a.lists.now a.to a.from)
 
 pub offset_bounds-lists-k : goal.offset_bounds-lists-k
 offset_bounds-lists-k c = let a = c.args in omega (arith, c.loop-k.invariant.0, min-le_right a.to (length a.lists.now))

@@ -3,7 +3,7 @@ use native.Mathlib.Omega.{arith}
 use lib.ListN.{length-set}
 use borrow.Author.Rules.{rules}
 use Rattle.store.specs.Tables.{tabulate, lines_in}
-use Rattle.judge.specs.Judge.{column_of}
+use Rattle.judge.specs.Judge.{verdict_byte, column_of}
 use Rattle.judge.proofs.VerdictLaws.{column_put}
 use Rattle.judge.proofs.lines.judge_all.Goals as goal
 
@@ -22,7 +22,7 @@ loop-i-preserved c = let l = c.loop-i in (
   λ xs f.
       let judged = c.judge_line-judged.ensures xs (f _ c.loop-i-test.true) in
       let put = l.invariant.3 xs f in
-      (rw (judged, put.0) (column_put (λ j. j.verdict) xs _ _ _ l.i c.args.verdicts.now (omega arith)), rw (judged, put.1) (column_put (λ j. j.result) xs _ _ _ l.i c.args.results.now (omega arith))),
+      (rw (c.byte.ensures, judged, put.0) (column_put (λ j. verdict_byte j.verdict) xs _ _ _ l.i c.args.verdicts.now (omega arith)), rw (judged, put.1) (column_put (λ j. j.result) xs _ _ _ l.i c.args.results.now (omega arith))),
 )
 
 pub shape_of-verdicts : goal.shape_of-verdicts

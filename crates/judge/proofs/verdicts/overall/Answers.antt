@@ -1,14 +1,14 @@
 use Rattle.judge.specs.Judge.{overall_of}
 use Rattle.judge.proofs.verdicts.overall.Goals as goal
 
-pub returns-in-At : goal.returns-in-At
+pub returns-in-Some : goal.returns-in-Some
 unfolding overall_of
-returns-in-At c = rw (← c.first_verdict.ensures, c.in-At.is)
+returns-in-Some c = rw (← c.first_verdict.ensures, c.in-Some.is)
 
-pub returns-in-At-first_verdict : goal.returns-in-At-first_verdict
+pub returns-in-Some-first_verdict : goal.returns-in-Some-first_verdict
 unfolding overall_of
-returns-in-At-first_verdict c = rw (← c.first_verdict.ensures, c.in-Nowhere.is, ← c.first_verdict-in-Nowhere.ensures, c.in-At-first_verdict.is)
+returns-in-Some-first_verdict c = rw (← c.first_verdict.ensures, c.in_default.is, ← c.first_verdict-2.ensures, c.in-Some-first_verdict.is)
 
-pub returns-in-Nowhere-first_verdict : goal.returns-in-Nowhere-first_verdict
+pub returns : goal.returns
 unfolding overall_of
-returns-in-Nowhere-first_verdict c = rw (← c.first_verdict.ensures, c.in-Nowhere.is, ← c.first_verdict-in-Nowhere.ensures, c.in-Nowhere-first_verdict.is)
+returns c = rw (← c.first_verdict.ensures, c.in_default.is, ← c.first_verdict-2.ensures, c.in_default-first_verdict.is)

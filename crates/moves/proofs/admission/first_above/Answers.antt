@@ -10,15 +10,15 @@ use Rattle.moves.proofs.admission.first_above.Goals as goal
 pub loop-k-init : goal.loop-k-init
 loop-k-init c = (search rules, refl)
 
-pub returns-then-verdicts-k-gt-DISREGARDED : goal.returns-then-verdicts-k-gt-DISREGARDED
-returns-then-verdicts-k-gt-DISREGARDED c = let k = c.loop-k.k in
+pub returns-then-last-verdicts : goal.returns-then-last-verdicts
+returns-then-last-verdicts c = let k = c.loop-k.k in
     let vs = c.args.verdicts.now in
-    sym (first_here (ltb verdict_disregarded) k vs k 0 c.loop-k-test.true (lt-ltb verdict_disregarded (get_or vs k 0) c.if-verdicts-k-gt-DISREGARDED.true)) ∙ c.loop-k.invariant.1
+    sym (first_here (ltb verdict_disregarded) k vs k 0 c.loop-k-test.true (rw c.byte-last.ensures at (lt-ltb c.byte-last.result (get_or vs k 0) c.if-last-verdicts.true))) ∙ c.loop-k.invariant.1
 
 pub loop-k-preserved : goal.loop-k-preserved
 loop-k-preserved c = let k = c.loop-k.k in
     let vs = c.args.verdicts.now in
-    (search rules, sym (first_later (ltb verdict_disregarded) k vs k 0 c.loop-k-test.true (le-ltb verdict_disregarded (get_or vs k 0) c.if-verdicts-k-gt-DISREGARDED.false)) ∙ c.loop-k.invariant.1)
+    (search rules, sym (first_later (ltb verdict_disregarded) k vs k 0 c.loop-k-test.true (rw c.byte-last.ensures at (le-ltb c.byte-last.result (get_or vs k 0) c.if-last-verdicts.false))) ∙ c.loop-k.invariant.1)
 
 pub returns : goal.returns
 returns c = sym (first_nowhere (ltb verdict_disregarded) c.loop-k.k c.args.verdicts.now c.loop-k.k c.loop-k-test.false) ∙ c.loop-k.invariant.1

@@ -3,6 +3,7 @@ use mathlib.Core.Path.{◌≡◌, refl}
 use native.Mathlib.Omega.{arith}
 use lib.ListN.{length, get_or}
 use borrow.Author.Rules.{rules}
+use Rattle.judge.specs.Judge.{verdict_byte}
 use Rattle.moves.specs.Internal.{judged_in}
 use Rattle.moves.proofs.RenewLaws.{differs_most, listed_place, listed_start, listed_next, listed_end}
 use Rattle.moves.proofs.renewing.renew_listed.Goals as goal
@@ -30,7 +31,7 @@ overflow_add-altered c =
     let most : (c.renew_line-altered.result ≤ 1) = let line = get_or c.args.list.now c.loop-k.k 0 - 1 in
     let j = c.requires.6 line (omega (arith, place)) in
     let new = judged_in j.variables c.args.row.now c.args.heads.now c.args.bodies.now line in
-    rw (c.renew_line-altered.ensures j.variables j.heads_fit).0 (differs_most (get_or c.loop-k.verdicts line 0) new.verdict) in
+    rw (c.renew_line-altered.ensures j.variables j.heads_fit).0 (differs_most (get_or c.loop-k.verdicts line 0) (verdict_byte new.verdict)) in
     omega (arith, most)
 
 pub loop-k-preserved : goal.loop-k-preserved
@@ -39,7 +40,7 @@ loop-k-preserved c =
     let most : (c.renew_line-altered.result ≤ 1) = let line = get_or c.args.list.now c.loop-k.k 0 - 1 in
     let j = c.requires.6 line (omega (arith, place)) in
     let new = judged_in j.variables c.args.row.now c.args.heads.now c.args.bodies.now line in
-    rw (c.renew_line-altered.ensures j.variables j.heads_fit).0 (differs_most (get_or c.loop-k.verdicts line 0) new.verdict) in
+    rw (c.renew_line-altered.ensures j.variables j.heads_fit).0 (differs_most (get_or c.loop-k.verdicts line 0) (verdict_byte new.verdict)) in
     (search rules, search rules, search rules, omega (arith, most), λ xs f. let e = c.renew_line-altered.ensures xs (f (get_or c.args.list.now c.loop-k.k 0 - 1) (omega (arith, place))) in listed_next xs _ _ _ _ _ _ (omega arith, omega arith) c.requires.5 _ _ _ (c.loop-k.invariant.4 xs f) c.loop-k-test.true _ refl _ _ e.0 e.1)
 
 pub shape_of-verdicts : goal.shape_of-verdicts

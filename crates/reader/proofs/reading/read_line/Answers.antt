@@ -22,24 +22,24 @@ kind_of-requires c =
     let starts-in : (c.args.at < length (take c.args.stop c.args.file.now)) = omega (arith, long, c.requires.0) in
     starts-in
 
-pub slice_bounds-header_line-end : goal.slice_bounds-header_line-end
-slice_bounds-header_line-end c =
+pub slice_bounds-version_line-end : goal.slice_bounds-version_line-end
+slice_bounds-version_line-end c =
     let long : (length (take c.args.stop c.args.file.now) ≡ c.args.stop) = length-take-le c.args.stop c.args.file.now c.requires.1 in
     sym long
 
-pub header_line-requires : goal.header_line-requires
-header_line-requires c =
+pub version_line-requires : goal.version_line-requires
+version_line-requires c =
     let long : (length (take c.args.stop c.args.file.now) ≡ c.args.stop) = length-take-le c.args.stop c.args.file.now c.requires.1 in
     let starts-in : (c.args.at < length (take c.args.stop c.args.file.now)) = omega (arith, long, c.requires.0) in
     starts-in
 
-pub slice_bounds-header_line-end-in-OfExpectation : goal.slice_bounds-header_line-end-in-OfExpectation
-slice_bounds-header_line-end-in-OfExpectation c =
+pub slice_bounds-expectation_line-end : goal.slice_bounds-expectation_line-end
+slice_bounds-expectation_line-end c =
     let long : (length (take c.args.stop c.args.file.now) ≡ c.args.stop) = length-take-le c.args.stop c.args.file.now c.requires.1 in
     sym long
 
-pub header_line-requires-in-OfExpectation : goal.header_line-requires-in-OfExpectation
-header_line-requires-in-OfExpectation c =
+pub expectation_line-requires : goal.expectation_line-requires
+expectation_line-requires c =
     let long : (length (take c.args.stop c.args.file.now) ≡ c.args.stop) = length-take-le c.args.stop c.args.file.now c.requires.1 in
     let starts-in : (c.args.at < length (take c.args.stop c.args.file.now)) = omega (arith, long, c.requires.0) in
     starts-in
@@ -50,13 +50,13 @@ returns-in-Skipped c = (λ next. of_kind Skipped (stored_file c.args.file.now (s
 
 pub returns-in-OfVersion : goal.returns-in-OfVersion
 unfolding read_as
-returns-in-OfVersion c = let r = c.header_line.ensures in
-    (λ next. r.0 c.args.file.now (store_of c.args.variables.now c.args.heads.now c.args.bodies.now) next ∙ of_kind OfVersion (stored_file c.args.file.now (store_of c.args.variables.now c.args.heads.now c.args.bodies.now) c.args.p) ((line_at (take c.args.stop c.args.file.now) c.args.at next)) c.kind_of.ensures c.in-OfVersion.is, c.requires.4, header_searchable c.args.file.now (store_of c.args.variables.now c.args.heads.now c.args.bodies.now) c.args.p c.header_line.result r.1 c.requires.5, header_room c.args.p c.header_line.result r.1, header_fits c.args.file.now (store_of c.args.variables.now c.args.heads.now c.args.bodies.now) c.args.p c.header_line.result r.1)
+returns-in-OfVersion c = let r = c.version_line.ensures in
+    (λ next. r.0 c.args.file.now (store_of c.args.variables.now c.args.heads.now c.args.bodies.now) next ∙ of_kind OfVersion (stored_file c.args.file.now (store_of c.args.variables.now c.args.heads.now c.args.bodies.now) c.args.p) ((line_at (take c.args.stop c.args.file.now) c.args.at next)) c.kind_of.ensures c.in-OfVersion.is, c.requires.4, header_searchable c.args.file.now (store_of c.args.variables.now c.args.heads.now c.args.bodies.now) c.args.p c.version_line.result r.1 c.requires.5, header_room c.args.p c.version_line.result r.1, header_fits c.args.file.now (store_of c.args.variables.now c.args.heads.now c.args.bodies.now) c.args.p c.version_line.result r.1)
 
 pub returns-in-OfExpectation : goal.returns-in-OfExpectation
 unfolding read_as
-returns-in-OfExpectation c = let r = c.header_line-in-OfExpectation.ensures in
-    (λ next. r.0 c.args.file.now (store_of c.args.variables.now c.args.heads.now c.args.bodies.now) next ∙ of_kind OfExpectation (stored_file c.args.file.now (store_of c.args.variables.now c.args.heads.now c.args.bodies.now) c.args.p) ((line_at (take c.args.stop c.args.file.now) c.args.at next)) c.kind_of.ensures c.in-OfExpectation.is, c.requires.4, header_searchable c.args.file.now (store_of c.args.variables.now c.args.heads.now c.args.bodies.now) c.args.p c.header_line-in-OfExpectation.result r.1 c.requires.5, header_room c.args.p c.header_line-in-OfExpectation.result r.1, header_fits c.args.file.now (store_of c.args.variables.now c.args.heads.now c.args.bodies.now) c.args.p c.header_line-in-OfExpectation.result r.1)
+returns-in-OfExpectation c = let r = c.expectation_line.ensures in
+    (λ next. r.0 c.args.file.now (store_of c.args.variables.now c.args.heads.now c.args.bodies.now) next ∙ of_kind OfExpectation (stored_file c.args.file.now (store_of c.args.variables.now c.args.heads.now c.args.bodies.now) c.args.p) ((line_at (take c.args.stop c.args.file.now) c.args.at next)) c.kind_of.ensures c.in-OfExpectation.is, c.requires.4, header_searchable c.args.file.now (store_of c.args.variables.now c.args.heads.now c.args.bodies.now) c.args.p c.expectation_line.result r.1 c.requires.5, header_room c.args.p c.expectation_line.result r.1, header_fits c.args.file.now (store_of c.args.variables.now c.args.heads.now c.args.bodies.now) c.args.p c.expectation_line.result r.1)
 
 pub returns-in-OfDeclarations : goal.returns-in-OfDeclarations
 unfolding read_as
@@ -70,4 +70,4 @@ returns-in-OfStatement c = let r = c.read_statement.ensures in
 
 pub returns-in-OfNoKind : goal.returns-in-OfNoKind
 unfolding read_as
-returns-in-OfNoKind c = (λ next. rw c.refusal.ensures (of_kind OfNoKind (stored_file c.args.file.now (store_of c.args.variables.now c.args.heads.now c.args.bodies.now) c.args.p) ((line_at (take c.args.stop c.args.file.now) c.args.at next)) c.kind_of.ensures c.in-OfNoKind.is), c.requires.4, tt, tt, λ f. tt)
+returns-in-OfNoKind c = (λ next. rw c.of.ensures (of_kind OfNoKind (stored_file c.args.file.now (store_of c.args.variables.now c.args.heads.now c.args.bodies.now) c.args.p) ((line_at (take c.args.stop c.args.file.now) c.args.at next)) c.kind_of.ensures c.in-OfNoKind.is), c.requires.4, tt, tt, λ f. tt)

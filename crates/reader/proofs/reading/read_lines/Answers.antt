@@ -1,6 +1,10 @@
-use mathlib.Core.Path.{sym, ◌∙◌}
+use mathlib.Core.Path.{◌≡◌}
 use native.Mathlib.Omega.{arith}
+use Rattle.std.proofs.Common.{rules}
 use Rattle.refusal.specs.declared.Subject.TheVariants.{Constraint}
+use Rattle.refusal.specs.declared.Fault.TheVariants.{ByteNotAllowed}
+use Rattle.refusal.specs.Result.{Ok, refusal}
+use Rattle.store.proofs.ExitLaws.{mapped_ok, mapped_err, exit}
 use Rattle.text.proofs.FoundLineLaws.{Ended, line_ends}
 use Rattle.text.proofs.ReadingLaws.{reading_starts, reading_ends, reading_stops, reading_goes, reading_faults}
 use Rattle.constraint.specs.File.{empty_file}
@@ -14,41 +18,44 @@ loop-i-init c = let t = store_of c.args.variables.now c.args.heads.now c.args.bo
     rw (c.nothing-p.ensures, nothing_held c.args.file.now t)
     (reading_starts Constraint read_line empty_file c.args.file.now, c.requires.1, record { variables = omega arith; lines = omega arith }, c.requires.2, λ k h. let z : ⊥ = omega arith in absurd z)
 
-pub returns-in-Faulty : goal.returns-in-Faulty
-returns-in-Faulty c = let i = c.loop-i.invariant in
-    (rw c.refusal.ensures (reading_faults Constraint read_line empty_file c.args.file.now i.0 c.loop-i-test.true c.in-Faulty.bad (sym c.in-Faulty.is ∙ c.find_line.ensures)), i.1, tt, tt, tt)
+pub returns-in_err-line : goal.returns-in_err-line
+returns-in_err-line c = let i = c.loop-i.invariant in
+    let bad = mapped_err c.map_err.result c.find_line.result (λ bad. refusal Constraint ByteNotAllowed bad) c.map_err.ensures.cases (λ e y l. search rules) _ c.in_err-line.was in
+    rw (exit c.from_residual.result c.in_err-line.field-0.0 c.from_residual.ensures, bad.2)
+    (reading_faults Constraint read_line empty_file c.args.file.now i.0 c.loop-i-test.true bad.0 (rw bad.1 at c.find_line.ensures), i.1, tt, tt, tt)
 
-pub read_any_line-added-requires : goal.read_any_line-added-requires
-read_any_line-added-requires c =
-    let line : (Ended c.args.file.now c.loop-i.i c.in-Ends.stop c.in-Ends.next) = line_ends c.args.file.now c.loop-i.i c.loop-i-test.true _ _ (sym c.in-Ends.is ∙ c.find_line.ensures) in
+pub read_any_line-requires : goal.read_any_line-requires
+read_any_line-requires c =
+    let found : (c.find_line.result ≡ Ok c.in_ok-line.line) = mapped_ok c.map_err.result c.find_line.result (λ bad. refusal Constraint ByteNotAllowed bad) c.map_err.ensures.cases (λ e y l. search rules) _ c.in_ok-line.was in
+    let line : (Ended c.args.file.now c.loop-i.i c.in_ok-line.line.stop c.in_ok-line.line.next) = line_ends c.args.file.now c.loop-i.i c.loop-i-test.true _ _ (rw found at c.find_line.ensures) in
     let i = c.loop-i.invariant in
     (line.begun, line.within, c.requires.0, i.2, i.1, i.3, line.allowed)
 
-pub advance-requires : goal.advance-requires
-advance-requires c = c.read_any_line-added.ensures.3
+pub advance-p-requires : goal.advance-p-requires
+advance-p-requires c = c.in_ok-part.ensures.3
 
-pub returns-in-Stop : goal.returns-in-Stop
-returns-in-Stop c =
-    let line : (Ended c.args.file.now c.loop-i.i c.in-Ends.stop c.in-Ends.next) = line_ends c.args.file.now c.loop-i.i c.loop-i-test.true _ _ (sym c.in-Ends.is ∙ c.find_line.ensures) in
-    let e = c.read_any_line-added.ensures in
-    let next = c.in-Ends.next in
-    let step = sym c.advance.ensures ∙ c.in-Stop.is in
-    (reading_stops Constraint read_line empty_file c.args.file.now c.loop-i.invariant.0 c.loop-i-test.true c.in-Ends.stop next line c.in-Stop.r (rw step at (e.0 next)), e.1, tt, tt, tt)
+pub returns-in_err-part : goal.returns-in_err-part
+returns-in_err-part c =
+    let found : (c.find_line.result ≡ Ok c.in_ok-line.line) = mapped_ok c.map_err.result c.find_line.result (λ bad. refusal Constraint ByteNotAllowed bad) c.map_err.ensures.cases (λ e y l. search rules) _ c.in_ok-line.was in
+    let line : (Ended c.args.file.now c.loop-i.i c.in_ok-line.line.stop c.in_ok-line.line.next) = line_ends c.args.file.now c.loop-i.i c.loop-i-test.true _ _ (rw found at c.find_line.ensures) in
+    let e = c.in_err-part.ensures in
+    rw (exit c.from_residual-in_err-part.result c.in_err-part.field-0.0 c.from_residual-in_err-part.ensures)
+    (reading_stops Constraint read_line empty_file c.args.file.now c.loop-i.invariant.0 c.loop-i-test.true c.in_ok-line.line.stop c.in_ok-line.line.next line _ (e.0 c.in_ok-line.line.next), e.1, tt, tt, tt)
 
 pub loop-i-smaller : goal.loop-i-smaller
 loop-i-smaller c =
-    let line : (Ended c.args.file.now c.loop-i.i c.in-Ends.stop c.in-Ends.next) = line_ends c.args.file.now c.loop-i.i c.loop-i-test.true _ _ (sym c.in-Ends.is ∙ c.find_line.ensures) in
+    let found : (c.find_line.result ≡ Ok c.in_ok-line.line) = mapped_ok c.map_err.result c.find_line.result (λ bad. refusal Constraint ByteNotAllowed bad) c.map_err.ensures.cases (λ e y l. search rules) _ c.in_ok-line.was in
+    let line : (Ended c.args.file.now c.loop-i.i c.in_ok-line.line.stop c.in_ok-line.line.next) = line_ends c.args.file.now c.loop-i.i c.loop-i-test.true _ _ (rw found at c.find_line.ensures) in
     omega (arith, line.forward, line.inside)
 
 pub loop-i-preserved : goal.loop-i-preserved
 loop-i-preserved c =
-    let line : (Ended c.args.file.now c.loop-i.i c.in-Ends.stop c.in-Ends.next) = line_ends c.args.file.now c.loop-i.i c.loop-i-test.true _ _ (sym c.in-Ends.is ∙ c.find_line.ensures) in
-    let e = c.read_any_line-added.ensures in
+    let found : (c.find_line.result ≡ Ok c.in_ok-line.line) = mapped_ok c.map_err.result c.find_line.result (λ bad. refusal Constraint ByteNotAllowed bad) c.map_err.ensures.cases (λ e y l. search rules) _ c.in_ok-line.was in
+    let line : (Ended c.args.file.now c.loop-i.i c.in_ok-line.line.stop c.in_ok-line.line.next) = line_ends c.args.file.now c.loop-i.i c.loop-i-test.true _ _ (rw found at c.find_line.ensures) in
+    let e = c.in_ok-part.ensures in
     let i = c.loop-i.invariant in
-    let next = c.in-Ends.next in
-    let step = sym c.advance.ensures ∙ c.in-Next.is in
-    let goes = rw step at (e.0 next) in
-    (reading_goes Constraint read_line empty_file c.args.file.now i.0 c.loop-i-test.true c.in-Ends.stop next line _ goes, e.1, rw step at (room_enough c.loop-i.p c.read_any_line-added.result i.2 e.3), rw step at e.2, rw step at (e.4 i.4))
+    rw c.advance-p.ensures
+    (reading_goes Constraint read_line empty_file c.args.file.now i.0 c.loop-i-test.true c.in_ok-line.line.stop c.in_ok-line.line.next line _ (e.0 c.in_ok-line.line.next), e.1, room_enough c.loop-i.p c.in_ok-part.part i.2 e.3, e.2, e.4 i.4)
 
 pub returns : goal.returns
 returns c = let i = c.loop-i.invariant in

@@ -1,7 +1,7 @@
 use Rattle.spear.proofs.packing.pack_check.Goals as goal
 
-pub returns-in-Checked : goal.returns-in-Checked
-returns-in-Checked c = rw (c.in-Checked.is, ← c.overall_number.ensures, ← c.deciding_line.ensures) c.verdict_word.ensures
+pub returns-in-Ok : goal.returns-in-Ok
+returns-in-Ok c = rw (c.in-Ok.is, ← c.overall_number.ensures, ← c.deciding_line.ensures) c.verdict_word.ensures
 
-pub returns-in-Refused : goal.returns-in-Refused
-returns-in-Refused c = rw c.in-Refused.is c.pack_refusal.ensures
+pub returns-in-Err : goal.returns-in-Err
+returns-in-Err c = rw c.in-Err.is c.pack_refusal.ensures

@@ -11,7 +11,7 @@ use Rattle.operand.proofs.TakenLaws.{next_taken, next_constant}
 use Rattle.statement.proofs.operations.take_operand.Goals as goal
 
 pub returns-then-start-line : goal.returns-then-start-line
-returns-then-start-line c = (λ start next h. rw (c.refusal.ensures, c.if-start-line.true) (operand_missing _ c.args.line.now start next _ h (tokens_done c.args.line.now c.args.i c.spaces-start.result c.spaces-start.ensures c.if-start-line.true)), tt, tt)
+returns-then-start-line c = (λ start next h. rw (c.of.ensures, c.if-start-line.true) (operand_missing _ c.args.line.now start next _ h (tokens_done c.args.line.now c.args.i c.spaces-start.result c.spaces-start.ensures c.if-start-line.true)), tt, tt)
 
 pub bounds-line-start : goal.bounds-line-start
 bounds-line-start c =

@@ -1,7 +1,10 @@
+use Rattle.std.proofs.lemmas.Result.{err_from_is_err_and}
 use Rattle.tables.proofs.check.check.Goals as goal
 
-pub returns-in-Done : goal.returns-in-Done
-returns-in-Done c = (rw c.in-Done.is at c.check_lines.ensures).0
+pub returns-in_err-overall : goal.returns-in_err-overall
+returns-in_err-overall c =
+    let q = err_from_is_err_and c.from_residual.result c.from_residual.ensures.1 in
+    rw (q.1, q.2) c.in_err-overall.ensures.0
 
-pub returns-in-Stopped : goal.returns-in-Stopped
-returns-in-Stopped c = (rw c.in-Stopped.is at c.check_lines.ensures).0
+pub returns : goal.returns
+returns c = c.in_ok-overall.ensures.0

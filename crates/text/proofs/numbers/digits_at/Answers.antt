@@ -5,7 +5,8 @@ use native.Mathlib.Omega.{arith}
 use lib.ListN.{get_or, drop}
 use Rattle.text.specs.Bytes.{front_of}
 use Rattle.text.specs.declared.Class.TheVariants.{Digit}
-use Rattle.text.specs.declared.Number.TheVariants.{TooBig}
+use Rattle.std.specs.Prelude.{Err}
+use Rattle.text.specs.declared.NumberError.TheVariants.{TooBig}
 use Rattle.text.specs.Scan.{is_of, magnitude}
 use Rattle.text.proofs.RunLaws.{past_more, past_stop, past_end}
 use Rattle.text.proofs.NumberLaws.{digits_more, digits_stop, digits_end, digits_good, digits_big}
@@ -39,7 +40,7 @@ pub returns-then-n : goal.returns-then-n
 unfolding is_of
 returns-then-n c =
     let digit : (is_of Digit (get_or c.args.text.now c.loop-i.i 0) ≡ true) = sym c.is_digit.ensures ∙ c.if-not-is_digit.false in
-    let big : (let a = c.args in 2 ^ 64 ≤ c.loop-i.n * 10 + (get_or a.text.now c.loop-i.i 0 - 48) → TooBig ≡ magnitude (front_of (is_of Digit) (drop a.at a.text.now))) = λ h. let l = c.loop-i in
+    let big : (let a = c.args in 2 ^ 64 ≤ c.loop-i.n * 10 + (get_or a.text.now c.loop-i.i 0 - 48) → Err TooBig ≡ magnitude (front_of (is_of Digit) (drop a.at a.text.now))) = λ h. let l = c.loop-i in
     digits_big _ _ h _ (sym (digits_more (is_of Digit) _ l.i l.n c.loop-i-test.true digit) ∙ l.invariant.left) in
     (c.too_big.ensures.0 ∙ big (omega arith), c.too_big.ensures.1 ∙ c.loop-i.invariant.stop)
 
@@ -47,7 +48,7 @@ pub returns-then-m-d : goal.returns-then-m-d
 unfolding is_of
 returns-then-m-d c =
     let digit : (is_of Digit (get_or c.args.text.now c.loop-i.i 0) ≡ true) = sym c.is_digit.ensures ∙ c.if-not-is_digit.false in
-    let big : (let a = c.args in 2 ^ 64 ≤ c.loop-i.n * 10 + (get_or a.text.now c.loop-i.i 0 - 48) → TooBig ≡ magnitude (front_of (is_of Digit) (drop a.at a.text.now))) = λ h. let l = c.loop-i in
+    let big : (let a = c.args in 2 ^ 64 ≤ c.loop-i.n * 10 + (get_or a.text.now c.loop-i.i 0 - 48) → Err TooBig ≡ magnitude (front_of (is_of Digit) (drop a.at a.text.now))) = λ h. let l = c.loop-i in
     digits_big _ _ h _ (sym (digits_more (is_of Digit) _ l.i l.n c.loop-i-test.true digit) ∙ l.invariant.left) in
     (c.too_big-then-m-d.ensures.0 ∙ big (omega arith), c.too_big-then-m-d.ensures.1 ∙ c.loop-i.invariant.stop)
 

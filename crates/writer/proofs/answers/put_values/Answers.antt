@@ -18,7 +18,7 @@ put_byte-requires c = let long = values_length c.args.file.now c.args.variables.
     omega (arith, c.requires.2, long, c.put_settings-end.ensures.ends)
 
 pub returns : goal.returns
-returns c = let some = c.if-n-eq0.false in
+returns c = let Some = c.if-n-eq0.false in
     let first = c.put_byte-first.ensures in
     let values = c.put_settings-end.ensures in
-    put_values _ _ _ _ some c.requires.2 first values c.put_byte.ensures
+    put_values _ _ _ _ Some c.requires.2 first values c.put_byte.ensures

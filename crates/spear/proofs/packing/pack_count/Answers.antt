@@ -1,0 +1,7 @@
+use Rattle.spear.proofs.packing.pack_count.Goals as goal
+
+pub returns-in-Ok : goal.returns-in-Ok
+returns-in-Ok c = rw c.in-Ok.is c.done_word.ensures
+
+pub returns-in-Err : goal.returns-in-Err
+returns-in-Err c = rw c.in-Err.is c.pack_refusal.ensures
