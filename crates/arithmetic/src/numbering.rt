@@ -63,8 +63,9 @@ pub fn operator_number(op: Operator) -> u64
 pub fn operator_numbered(n: u64) -> Operator
     ensures { result ≡ operator_numbered n }
 {
-    if n < OPERATORS.len() as u64 {
-        OPERATORS[n as usize]
+    let operators = &OPERATORS;
+    if n < operators.len() as u64 {
+        operators[n as usize]
     } else {
         Operator::Extr
     }

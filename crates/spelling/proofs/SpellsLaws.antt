@@ -21,7 +21,7 @@ use Rattle.arithmetic.specs.declared.Arithmetic.TheVariants.{Add, Sub, Mul}
 use Rattle.arithmetic.specs.declared.Division.TheVariants.{Udiv, Sdiv, Urem, Srem}
 use Rattle.arithmetic.specs.declared.Shift.TheVariants.{Shl, Ashr, Lshr}
 use Rattle.arithmetic.specs.declared.Extension.TheVariants.{Sext, Zext}
-use Rattle.arithmetic.specs.Numbering.{bitwise_number, comparison_number, arithmetic_number, division_number, shift_number, extension_number, operator_number}
+use Rattle.arithmetic.specs.Numbering.{operator_number}
 use Rattle.text.specs.Bytes.{same}
 use Rattle.text.proofs.NameLaws.{same_true}
 use Rattle.text.proofs.SeenLaws.{is_seen}
@@ -29,14 +29,14 @@ use Rattle.spelling.specs.Operators.{bitwise_spellings, predicate_spellings, ari
 use Rattle.spelling.specs.Claims.{SpellsExactly}
 
 -- an entry of a table passes a test, spells s, and is for op
-record Entry (test : String × Operator → Bool) (s : List ℕ) (op : Operator) : Type 0 where
-  entry : String × Operator
-  passes : test entry ≡ true
-  spells : ascii entry.0 ≡ s
-  is : entry.1 ≡ op
+pub record Entry (test : String × Operator → Bool) (s : List ℕ) (op : Operator) : Type 0 where
+  pub entry : String × Operator
+  pub passes : test entry ≡ true
+  pub spells : ascii entry.0 ≡ s
+  pub is : entry.1 ≡ op
 
 -- what a table spells stands in the table
-spelt_by : (test : String × Operator → Bool) (s : List ℕ) (op : Operator) (xs : List (String × Operator)) → every test xs ≡ true → operator_spelt s xs ≡ Some op → Entry test s op
+pub spelt_by : (test : String × Operator → Bool) (s : List ℕ) (op : Operator) (xs : List (String × Operator)) → every test xs ≡ true → operator_spelt s xs ≡ Some op → Entry test s op
 unfolding every operator_spelt
 spelt_by test s op [] h e = never (cc e)
 spelt_by test s op (x ∷ xs) h e = let p = and_true (test x) (every test xs) h in go p.0 (same (ascii x.0) s) refl (spelt_by test s op xs p.1) e

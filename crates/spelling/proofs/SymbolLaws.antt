@@ -14,7 +14,7 @@ use Rattle.arithmetic.specs.declared.Arithmetic.TheVariants.{Add, Sub, Mul}
 use Rattle.arithmetic.specs.declared.Division.TheVariants.{Udiv, Sdiv, Urem, Srem}
 use Rattle.arithmetic.specs.declared.Shift.TheVariants.{Shl, Ashr, Lshr}
 use Rattle.arithmetic.specs.declared.Extension.TheVariants.{Sext, Zext}
-use Rattle.arithmetic.specs.Numbering.{operator_number, bitwise_number, comparison_number, arithmetic_number, division_number, shift_number, extension_number}
+use Rattle.arithmetic.specs.Numbering.{operator_number}
 use Rattle.spelling.specs.Operators.{spelling_of, spelling_in, spellings, bitwise_spellings, predicate_spellings, arithmetic_spellings, shift_and_cast_spellings}
 
 -- the spellings in order

@@ -1,9 +1,9 @@
 // The operators' spellings. Reading and writing both go by one table.
 #![tactic(auto)]
 
-ghost use Rattle.std.specs.Prelude.{◌≡◌, ◌≤◌, ◌<◌, [], map, length, drop, slice_index_or};
+ghost use Rattle.std.specs.Prelude.{◌≡◌, ◌+◌, ◌≤◌, ◌<◌, [], map, length, drop, slice_index_or};
 ghost use Rattle.edition.specs.declared.Edition.{Edition};
-ghost use Rattle.spelling.specs.Internal.{first_spelt};
+ghost use Rattle.spelling.specs.Internal.{longest, keys, key_of, FindByKeys};
 ghost use Rattle.spelling.specs.Operators.{operator_named, spelling_of, is_reserved};
 
 use arithmetic::numbering::operator_number;
@@ -47,17 +47,52 @@ const SPELLINGS: [(&'static [u8], Operator); 31] = [
     (b"extr", Operator::Extr),
 ];
 
-// The operator of the first spelling of a table that the bytes from `at` to the end are.
-fn spelt_in(table: &[(&'static [u8], Operator)], text: &[u8], at: usize) -> Option<Operator>
-    requires { at ≤ length text.now }
-    ensures { result ≡ first_spelt (drop at text.now) table.now }
+// The bytes of the longest spelling.
+const LONGEST: usize = 4;
+
+// How many keys there are.
+const KEYS: usize = 128;
+
+// For each key the number of the operator whose spelling has it; where none has it, any number serves.
+const NUMBERS: [u8; KEYS] = [
+    25, 0, 3, 0, 0, 0, 18, 0, 0, 16, 0, 0, 0, 0, 0, 17, 0, 0, 0, 0, 0, 0, 0, 0, 0, 0, 0, 22, 0, 0,
+    0, 21, 0, 0, 2, 0, 0, 20, 0, 0, 0, 19, 0, 0, 0, 0, 0, 0, 0, 0, 0, 0, 0, 0, 0, 0, 0, 6, 0, 0, 0,
+    0, 0, 5, 0, 0, 0, 0, 23, 0, 0, 0, 0, 4, 0, 0, 0, 0, 0, 0, 0, 0, 0, 0, 0, 29, 0, 12, 0, 8, 15,
+    0, 11, 0, 7, 0, 0, 0, 0, 0, 0, 0, 14, 0, 10, 0, 0, 13, 27, 9, 0, 30, 0, 0, 0, 28, 26, 24, 0, 0,
+    0, 0, 0, 0, 1, 0, 0, 0,
+];
+
+// What a byte of the length counts in a key.
+const LENGTH_FACTOR: usize = 8;
+
+// The key of a text: the sum of its first, second and last byte, and of its length. No two spellings have the same.
+fn key_of(word: &[u8]) -> usize
+    requires { (1 ≤ length word.now) × (length word.now ≤ longest) }
+    ensures { (result ≡ key_of word.now) × (result < keys) }
 {
-    for (word, op) in table {
-        if is_word(text, at, word) {
-            return Some(*op);
-        }
+    let last = word.len() - 1;
+    let second = last.min(1);
+    let sum = word[0] as usize + word[second] as usize + word[last] as usize;
+    (sum + word.len() * LENGTH_FACTOR) % KEYS
+}
+
+// The operator that the bytes from `at` to the end spell, by tables in which each spelling is found by its key: no other is compared.
+fn spelt_by_key(
+    numbers: &[u8],
+    table: &[(&'static [u8], Operator)],
+    text: &[u8],
+    at: usize,
+) -> Option<Operator>
+    requires { (at < length text.now) × (length text.now ≤ at + longest) × FindByKeys numbers.now (map (λ x. (x.0.now, x.1)) table.now) }
+    ensures { (e : Edition) → result ≡ operator_named e (drop at text.now) }
+{
+    let number = numbers[key_of(&text[at..])] as usize;
+    let (word, op) = &table[number];
+    if is_word(text, at, word) {
+        Some(*op)
+    } else {
+        None
     }
-    None
 }
 
 // The operator that the bytes from `at` to the end spell.
@@ -65,7 +100,11 @@ pub fn operator_at(text: &[u8], at: usize) -> Option<Operator>
     requires { at ≤ length text.now }
     ensures { (e : Edition) → result ≡ operator_named e (drop at text.now) }
 {
-    spelt_in(&SPELLINGS, text, at)
+    let len = text.len() - at;
+    if len == 0 || LONGEST < len {
+        return None;
+    }
+    spelt_by_key(&NUMBERS, &SPELLINGS, text, at)
 }
 
 // The spelling at a place of a table.
