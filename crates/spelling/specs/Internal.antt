@@ -37,12 +37,12 @@ is_numbered n None = false
 is_numbered n (Some op) = eqb (operator_number op) n
 
 -- a spelling with its operator, as it stands in a table
-abbrev pub entry_of : String × Operator → List ℕ × Operator
-entry_of x = (ascii x.0, x.1)
+abbrev pub spelling_entry : String × Operator → List ℕ × Operator
+spelling_entry x = (ascii x.0, x.1)
 
 -- by such tables each spelling is found by its key; each key has the number of a place
 pub record FindByKeys (numbers : List ℕ) (table : List (List ℕ × Operator)) : Type 0 where
   pub keyed : length numbers ≡ keys
   pub placed : every (λ n. ltb n (length table)) numbers ≡ true
-  pub listed : (e : Edition) → table ≡ map entry_of (spellings e)
+  pub listed : (e : Edition) → table ≡ map spelling_entry (spellings e)
   pub found : (e : Edition) → every (λ x. is_numbered (operator_number x.1) (spelt_by_key numbers table (ascii x.0))) (spellings e) ≡ true
