@@ -63,6 +63,7 @@ pub fn operator_number(op: Operator) -> u64
 pub fn operator_numbered(n: u64) -> Operator
     ensures { result ≡ operator_numbered n }
 {
+    // By a reference: an array constant that is indexed by itself is copied to the stack.
     let operators = &OPERATORS;
     if n < operators.len() as u64 {
         operators[n as usize]

@@ -17,7 +17,7 @@ longest = 4
 abbrev pub keys : ℕ
 keys = 128
 
--- the key of a text: the sum of its first, second and last byte, and of its length, each byte of which counts 8
+-- the key of a text: its first, second and last byte and 8 times its length, modulo the number of keys; of one byte, that byte is all three
 unfoldable pub key_of : List ℕ → ℕ
 key_of s = let last = length s - 1 in (get_or s 0 0 + get_or s (min last 1) 0 + get_or s last 0 + length s * 8) % keys
 

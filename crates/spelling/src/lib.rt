@@ -53,7 +53,7 @@ const LONGEST: usize = 4;
 // How many keys there are.
 const KEYS: usize = 128;
 
-// For each key the number of the operator whose spelling has it; where none has it, any number serves.
+// For each key the number of the operator whose spelling has it; where none has it, any operator's number serves.
 const NUMBERS: [u8; KEYS] = [
     25, 0, 3, 0, 0, 0, 18, 0, 0, 16, 0, 0, 0, 0, 0, 17, 0, 0, 0, 0, 0, 0, 0, 0, 0, 0, 0, 22, 0, 0,
     0, 21, 0, 0, 2, 0, 0, 20, 0, 0, 0, 19, 0, 0, 0, 0, 0, 0, 0, 0, 0, 0, 0, 0, 0, 0, 0, 6, 0, 0, 0,
@@ -62,10 +62,11 @@ const NUMBERS: [u8; KEYS] = [
     0, 0, 0, 0, 1, 0, 0, 0,
 ];
 
-// What a byte of the length counts in a key.
+// What the length is multiplied by in a key.
 const LENGTH_FACTOR: usize = 8;
 
-// The key of a text: the sum of its first, second and last byte, and of its length. No two spellings have the same.
+// The key of a text: its first, second and last byte and 8 times its length, added up modulo 128; in a text of one byte that byte is all three.
+// No two spellings have the same key.
 fn key_of(word: &[u8]) -> usize
     requires { (1 ≤ length word.now) × (length word.now ≤ longest) }
     ensures { (result ≡ key_of word.now) × (result < keys) }
