@@ -21,7 +21,7 @@ use Rattle.refusal.proofs.BoolLaws.{and_true}
 use Rattle.refusal.proofs.ListLaws.{every_get}
 use Rattle.refusal.proofs.ResultLaws.{never}
 use Rattle.text.specs.Bytes.{same}
-use Rattle.spelling.specs.Internal.{longest, keys, key_of, spelt_at, spelt_by_key, is_numbered, spelling_entry, FindByKeys}
+use Rattle.spelling.specs.Internal.{longest, keys, key_of, spelt_at, spelt_by_key, is_numbered, is_found, spelling_entry, FindByKeys}
 use Rattle.spelling.specs.Operators.{operator_spelt, operator_named, spellings, bitwise_spellings, predicate_spellings, arithmetic_spellings, shift_and_cast_spellings}
 use Rattle.spelling.proofs.SpellsLaws.{spelt_by}
 
@@ -80,7 +80,7 @@ module _ (ns : List ℕ) (ys : List (List ℕ × Operator)) (f : FindByKeys ns y
       go : (o : Option Operator) → operator_named e s ≡ o → spelt_by_key ns ys s ≡ o
       go None q = rw (f.listed e) (nowhere s (spellings e) (get_or ns (key_of s) 0) q)
       go (Some op) q =
-          let y = spelt_by (λ x. is_numbered (operator_number x.1) (spelt_by_key ns ys (ascii x.0))) s op (spellings e) (f.found e) q in
+          let y = spelt_by (is_found ns ys) s op (spellings e) (f.found e) q in
           is_operator op (spelt_by_key ns ys s) (rw (y.spells, y.is) at y.passes)
 
   pub place_below : key_of s < keys → get_or ns (key_of s) 0 < length ys

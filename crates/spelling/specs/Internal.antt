@@ -17,9 +17,13 @@ longest = 4
 abbrev pub keys : ℕ
 keys = 128
 
+-- what the length is multiplied by in a key
+abbrev pub length_factor : ℕ
+length_factor = 8
+
 -- the key of a text: its first, second and last byte and 8 times its length, modulo the number of keys; of one byte, that byte is all three
 unfoldable pub key_of : List ℕ → ℕ
-key_of s = let last = length s - 1 in (get_or s 0 0 + get_or s (min last 1) 0 + get_or s last 0 + length s * 8) % keys
+key_of s = let last = length s - 1 in (get_or s 0 0 + get_or s (min last 1) 0 + get_or s last 0 + length s * length_factor) % keys
 
 -- the operator at a place of a table, if s is the spelling there
 unfoldable pub spelt_at : List ℕ → List (List ℕ × Operator) → ℕ → Option Operator
@@ -40,9 +44,13 @@ is_numbered n (Some op) = eqb (operator_number op) n
 abbrev pub spelling_entry : String × Operator → List ℕ × Operator
 spelling_entry x = (ascii x.0, x.1)
 
+-- whether a spelling is found by its key
+abbrev pub is_found : List ℕ → List (List ℕ × Operator) → String × Operator → Bool
+is_found numbers table x = is_numbered (operator_number x.1) (spelt_by_key numbers table (ascii x.0))
+
 -- by such tables each spelling is found by its key; each key has the number of a place
 pub record FindByKeys (numbers : List ℕ) (table : List (List ℕ × Operator)) : Type 0 where
   pub keyed : length numbers ≡ keys
   pub placed : every (λ n. ltb n (length table)) numbers ≡ true
   pub listed : (e : Edition) → table ≡ map spelling_entry (spellings e)
-  pub found : (e : Edition) → every (λ x. is_numbered (operator_number x.1) (spelt_by_key numbers table (ascii x.0))) (spellings e) ≡ true
+  pub found : (e : Edition) → every (is_found numbers table) (spellings e) ≡ true
